@@ -1,6 +1,8 @@
 # The part `docs`: the names that the documents cite exist, the picture of the crates is that of
 # crates.txt, the rulebook and the counts of what the claims rest on are fresh, a second count gives
-# the same, the examples at the roots of crates are tests, and each lemma is cited and each import used.
+# the same, the examples at the roots of crates are tests, each lemma is cited and each import used,
+# and the pages for players have contents, links that lead somewhere, examples of games and no
+# unwanted words, and their card is fresh.
 
 check_docs() {
   take_over tools/names
@@ -10,6 +12,19 @@ check_docs() {
   take_over tools/rulebook/tests.py
   take_over tools/check/examples
   take_over tools/lemmas
+  take_over tools/check/pages
+  take_over tools/card --check
+}
+
+# wrong_pages TOP: looks at pages there in which one thing of each kind is wrong.
+wrong_pages() {
+  cp docs/players/*.md "$1/docs/players/"
+  printf '\nThe line is ruled.\n' >> "$1/docs/players/playing.md"
+  sed -i '/^- \[Stops\](/d' "$1/docs/players/map.md"
+  sed -i 's/(#by-post)/(#by-mail)/' "$1/docs/players/if-you-know-1830.md"
+  sed -i 's/^SOLD DH BOB 105$/SOLD DH BOB 106/' "$1/docs/players/playing.md"
+  yes word | head -n 16000 >> "$1/docs/players/index.md"
+  take_over tools/check/pages "$1"
 }
 
 docs_must_fail() {
@@ -32,10 +47,22 @@ docs_must_fail() {
   sees 'a lemma more that states again what another states' 6 take_over tools/lemmas --again 5
   printf '\nAnother line.\n' >> "$wrong/docs/rulebook/13-sales.md"
   sees 'a chapter that is not fresh' 1 take_over "$wrong/tools/claim" --check
-  sed -i 's/| S3 | [^|]*/| S3 | it sells nothing /' "$wrong/docs/players/rules.md"
-  sees 'a rule in other words, and the chapter that has it' 2 take_over "$wrong/tools/claim" --check
+  cp docs/rulebook/13-sales.md "$wrong/docs/rulebook"
+  # shellcheck disable=SC2016
+  sed -i 's/` sells n shares /` sells k shares /' "$wrong/docs/players/rules.md"
+  sees 'a chapter in other words than the rules for players' 1 take_over "$wrong/tools/claim" --check
+  sed -i 's/| SV | 20 |/| SV | 25 |/' "$wrong/docs/players/rules.md"
+  sees 'a made table with another number' 2 take_over "$wrong/tools/claim" --check
   sed 's/^\(| `run`[^|]*| \)[0-9]*/\10/' docs/developers/claim.md > "$scratch/counts.md"
-  sees 'a count that is not the other' 1 take_over tools/recount "$scratch/counts.md"
+  sees 'a count that is not the other' 1 take_over tools/recount --counts "$scratch/counts.md"
+  sed '/^| `run`/s/`umpire: run`/&, `rounds: games_end_once`/' docs/developers/proof.md > "$scratch/clauses.md"
+  sees 'a clause that the chapters leave out, and three counts without it' 4 take_over tools/recount --clauses "$scratch/clauses.md"
+  rm -r "$wrong/docs" && cp -r docs "$wrong"
+  sed -i 's/\bNoneHasCode\b/NoneHasIt/' "$wrong/docs/rulebook/36-desk.md"
+  sees 'a definition that its chapter leaves out' 1 take_over "$wrong/tools/recount"
+  cp docs/rulebook/36-desk.md "$wrong/docs/rulebook"
+  sed -i 's/`desk_state: all_in_order`, //' "$wrong/docs/developers/proof.md"
+  sees 'a sentence that is gone, with its chapter, names and counts' 4 take_over "$wrong/tools/claim" --check
   sed 's/^market: /&desk_base /' crates.txt > "$wrong/others.txt"
   sees 'a crate that stands on one above it' 1 take_over tools/layers --crates "$wrong/others.txt"
   sed '/>market</d' docs/crates.svg > "$wrong/crates.svg"
@@ -43,5 +70,8 @@ docs_must_fail() {
   mkdir -p "$wrong-crates/sheets/src" "$wrong-crates/test_umpire/src"
   sed 's/collect(rt/collects(rt/' crates/sheets/src/lib.rt > "$wrong-crates/sheets/src/lib.rt"
   cp crates/test_umpire/src/examples.rt "$wrong-crates/test_umpire/src/"
+  sees 'a page with an unwanted word, no contents, a link to nowhere, another report, and too many words' 5 wrong_pages "$wrong"
+  sed 's/ keep the earnings / keep it /' docs/players/formats.md > "$wrong/docs/players/formats.md"
+  sees 'a card that is not made from the tables' 1 take_over "$wrong/tools/card" --check
   sees 'an example that no test has' 1 take_over tools/check/examples "$wrong-crates"
 }

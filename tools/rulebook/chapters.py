@@ -9,13 +9,29 @@ from rulebook.reach import House, Name
 
 SPAN = re.compile(r'`([^`\n]+)`')
 CITED = re.compile(r'(\w+): ([^\W\d][\w-]*(?:, [^\W\d][\w-]*)*)$')
-HEADED = re.compile(r'Definition `(\w+): (\w+)` · function `(\w+): (\w+)` · game `([\w./-]+)`\.?$', re.M)
+HEADING = re.compile(r'^#+ (.*)$', re.M)
+
+
+@dataclass(frozen=True)
+class Headed:
+    """What states the rule of a section, each as `crate: name`: the definition and the function that carries it out. And a game of games/
+    that shows it."""
+    definition: str
+    function: str
+    game: str
+
+
+@dataclass(frozen=True)
+class Made:
+    """A table that is made from a definition, `crate: name`: the `rows` of a table of rules, or the `events` of an act."""
+    shape: str
+    name: str
 
 
 @dataclass
 class Chapter:
-    """A chapter: its file and its title, the sections of the players' pages that it has (or, where it has none, a
-    text of its own), and more definitions that it brings."""
+    """A chapter: its file and its title, the sections of the players' pages that it has, a text of its own behind them, and more
+    definitions that it brings."""
     file: str
     title: str
     sections: list[tuple[str, str]]
@@ -81,24 +97,24 @@ class Index:
                 yield from (one for one in found if one and one in self.reached)
 
 
-def fill(chapters: list[Chapter], pages: dict[str, str], index: Index, contracts: dict[str, list[Name]]) -> None:
+def fill(chapters: list[Chapter], pages: dict[str, str], index: Index, contracts: dict[str, list[Name]],
+         stated: dict[str, list[str]]) -> None:
     """Gives each chapter its text and its definitions: each definition to the first that needs it. What contracts name is at home in
-    the chapter with that file."""
+    the chapter with that file, and what states the rules of a section, by its heading, in the chapter that has it."""
     home: dict[Name, Chapter] = {}
     for chapter in chapters:
         parts = [(heading, section(pages[page], heading)) for page, heading in chapter.sections]
-        if parts:
-            chapter.text = '\n'.join(part if number == 0 else '### %s\n\n%s' % (heading.rstrip(':'), part)
-                                     for number, (heading, part) in enumerate(parts))
+        chapter.text = '\n'.join([part if number == 0 else '### %s\n\n%s' % (heading.rstrip(':'), part)
+                                  for number, (heading, part) in enumerate(parts)] + [chapter.text] * bool(chapter.text))
         for root in chapter.roots:
             one = index.named(*root.split(': '))
             if one is None:
                 raise ValueError('no definition %s' % root)
             home.setdefault(one, chapter)
     for chapter in chapters:
-        for crate, name, *_ in HEADED.findall(chapter.text):
-            one = index.named(crate, name)
-            if one in index.reached:
+        for heading in [heading for _, heading in chapter.sections] + HEADING.findall(chapter.text):
+            named = [index.named(*name.split(': ')) for name in stated.get(heading, [])]
+            for one in [one for one in named if one in index.reached]:
                 home.setdefault(one, chapter)
     for chapter in chapters:
         chapter.cited = list(dict.fromkeys(index.cited_in(chapter.text)))

@@ -1,32 +1,87 @@
-"""What the rulebook has: its claims, and its chapters in the order of the game."""
+"""What the rulebook has: its chapters in the order of the game, its notes, and the laws that it shows."""
 from __future__ import annotations
 
-from dataclasses import dataclass
-
-from rulebook.chapters import Chapter
+from rulebook.chapters import Chapter, Headed, Made
 from rulebook.examples import Law
 
 
-@dataclass(frozen=True)
-class Claim:
-    """A claim: the contracts of functions, `crate: name`, that make it."""
-    title: str
-    contracts: tuple[str, ...]
+# What states the rules of each section of rules.md from "The game" to the house rules.
+HEADED = {
+    'The game': Headed('rounds: Plays', 'rounds: play_with', 'codes/ROUND-SR1-after-the-opening'),
+    'The end after a broken bank': Headed('rounds: following', 'rounds: next', 'end-of-the-bank'),
+    'The end by a bankruptcy': Headed('rounds: coming', 'rounds: coming', 'codes/END-BANKRUPT'),
+    'What each player is worth': Headed('report: worth_of', 'report: player_worth', 'codes/END-BANKRUPT'),
+    'Players and money': Headed('totals: cash_of', 'totals: cash', 'first-round'),
+    'Privates': Headed('totals: owner_of', 'totals: owner', 'codes/REVENUE-in-roster-order'),
+    'The shares that come with CA and BOP': Headed('privates: gifts', 'privates: sell_baltimore', 'codes/GIVEN-PRR-with-CA'),
+    'Companies and their shares': Headed('totals: shares_of', 'totals: shares', 'codes/BOUGHT-from-the-pool'),
+    'Presidents': Headed('certs: successor_of', 'certs: successor', 'codes/PRESIDENT-strictly-more'),
+    'When a company floats': Headed('stock_round: with_float', 'stock_round: record_float', 'codes/FLOATS-at-four-left'),
+    'Counted certificates': Headed('certs: counted_of', 'certs: counted', 'codes/PLAYER-yellow-certificates'),
+    'The market': Headed('market: fallen', 'market: fall', 'codes/SELLS-several-shares'),
+    'Trains and phases': Headed('totals: phase_of', 'totals: phase', 'codes/TRADED-a-4-for-the-first-D'),
+    'Priority': Headed('totals: priority_of', 'totals: priority', 'codes/ROUND-priority-at-the-left'),
+    'Conditions': Headed('history: holds', 'history: is_met', 'codes/I1-PRICE-in-a-stock-round'),
+    'Bids': Headed('privates: bid_rules', 'privates: judge', 'codes/A4-under-5-above-a-bid'),
+    'When a private is sold': Headed('privates: settled', 'privates: settle_all', 'codes/SOLD-in-a-chain'),
+    'Auctions': Headed('privates: auction_of', 'privates: auction', 'codes/SOLD-by-auction'),
+    'The price of an auction': Headed('privates: price_among', 'privates: price_paid', 'codes/SOLD-by-auction-limit-over-the-cash'),
+    'Standing lines of an opening': Headed('privates: opening_standing_ruling', 'privates: judge_standing', 'codes/PAR-by-a-standing-line'),
+    'An opening round': Headed('privates: IsOpeningRound', 'privates: play_opening', 'codes/ROUND-one-after-another'),
+    'What becomes of a line of an opening': Headed('privates: opening_judgement', 'privates: judge', 'codes/A3-not-the-cheapest'),
+    'A stock round': Headed('stock_round: IsStockRound', 'stock_round: play_stock', 'codes/ROUND-SR1-after-the-opening'),
+    'What becomes of a line of a stock round': Headed('stock_round: stock_judgement', 'stock_round: judge', 'codes/S9-started-or-not'),
+    'Buying shares': Headed('certs: share_purchase_rules', 'certs: may_buy', 'codes/BOUGHT-from-the-pool'),
+    'Sales': Headed('certs: sale_rules', 'certs: may_sell', 'codes/SELLS-several-shares'),
+    'The exchange of MH': Headed('stock_round: is_no_exchange', 'stock_round: is_no_exchange', 'codes/EXCHANGED-before-NYC-is-started'),
+    'An operating round': Headed('rounds: IsOperatingRound', 'rounds: play_operating', 'codes/REVENUE-in-an-operating-round'),
+    "A company's turn": Headed('operating: IsCompanyTurn', 'operating: play_company', 'codes/WITHHELD-by-itself'),
+    'The home token': Headed('operating: with_home', 'operating: place_home', 'codes/HOME-in-operating-order'),
+    'The steps of a turn': Headed('board: place_of_step', 'operating: is_past_runs', 'codes/R1-after-the-pay-step'),
+    "What becomes of a line of a company's orders": Headed('operating: ReadingLeads', 'operating: rule_lines', 'codes/G6-stock-orders-in-a-companys-orders'),
+    'What a company reaches': Headed('reach: IsReach', 'reach: reached', 'codes/L9-not-reached'),
+    'The Gulf and the Canadian West': Headed('map_tables: joined_stop_of', 'map_tables: joined_stop', 'codes/R5-two-parts-of-the-gulf'),
+    'Lays': Headed('board: lay_rules', 'board: try_lay', 'codes/LAID-terrain-is-paid'),
+    'The lay of CS': Headed('board: is_cs_lay', 'board: is_cs_lay', 'codes/LAID-CS-beside-the-lay'),
+    'The lay and the token of DH': Headed('board: is_dh_lay', 'board: is_dh_token', 'codes/TOKEN-of-DH-for-nothing'),
+    'Tokens': Headed('board: token_rules', 'board: try_token', 'codes/TOKEN-40-then-100'),
+    'The kept slot of a home': Headed('board: kept_at', 'board: kept_at', 'codes/K3-no-free-slot'),
+    'Runs': Headed('legal_runs: IsLegalRun', 'legal_runs: check_run', 'codes/RUNS-add-up'),
+    'RUN BEST': Headed('legal_runs: IsGreatest', 'operating: rule_best', 'codes/RUNS-best-of-two-trains'),
+    'The check of a best revenue': Headed('certificate: IsAcceptedClaim', 'certificate: accepts', 'certificates/verify-two-trains'),
+    'Dividends': Headed('certs: paid_out', 'certs: pay_out', 'codes/DIVIDEND-who-is-paid'),
+    'Consent': Headed('totals: has_consent', 'totals: has_consent', 'codes/T4-no-consent'),
+    'Offers': Headed('purchases: offer_rules', 'purchases: judge_offer', 'codes/T4-an-offer-of-another-seat'),
+    'Buying trains': Headed('purchases: train_purchase_rules', 'purchases: judge_purchase', 'codes/TRAIN-from-a-company'),
+    'The train that a company must buy': Headed('forced_purchase: after_forced', 'forced_purchase: buy_by_force', 'codes/AID-of-a-president'),
+    'RAISE lines': Headed('forced_purchase: raise_judgement', 'forced_purchase: judge_raise', 'codes/S4-of-RAISE'),
+    'Privates that companies buy': Headed('purchases: private_rules', 'purchases: judge_private', 'codes/PRIVATE-anywhere-in-a-companys-orders'),
+    'A new phase': Headed('purchases: with_phase', 'purchases: begin_phase', 'codes/RUSTED-at-the-first-4'),
+    'Which trains are given up': Headed('purchases: next_discard', 'purchases: next_discard', 'codes/DISCARDED-by-a-standing-line'),
+}
 
-
-CLAIMS = [
-    Claim('`run`: the report', ('umpire: run',)),
-    Claim('`certs`: certificates', ('umpire: certs',)),
-    Claim('`verify`: the report by certificates', ('umpire: verify',)),
-    Claim('`migrate`: the file of version 2', ('umpire: migrate',)),
-    Claim("the desk's words", (
-        'desk_round: round', 'desk_why: cause_of', 'desk_why: figures_of', 'desk_base: explain', 'desk_state: state', 'desk_state: purse_of',
-        'desk_state: game_row', 'desk_state: private_row', 'desk_state: company_row', 'desk_state: share_row', 'desk_state: train_row', 'desk_state: earnings_of',
-        'desk_state: all_in_order', 'desk_base: tokens_left', 'desk_base: trains_left', 'desk_base: tiles_left', 'desk_base: best_at',
-        'desk_check: check', 'desk_check: look_at_sheet', 'desk_check: find_replaced', 'foresight: put_alone', 'foresight: put_all',
-        'desk_trials: refused_of', 'desk_may: push_lines_of_turn', 'desk_moves: line_text', 'desk_may: best_now',
-        'desk_may: best_after_lay', 'desk_may: best_after_token', 'desk_moves: trial', 'page: page')),
-]
+# The tables behind the words of a section of rules.md: the rules of an order, and the events of an act.
+TABLES = {
+    'Standing lines of an opening': [Made('rows', 'privates: limit_rules'), Made('rows', 'privates: par_rules')],
+    'What becomes of a line of an opening': [
+        Made('rows', 'privates: private_purchase_rules'),
+        Made('rows', 'privates: bid_rules'),
+        Made('events', 'privates: after_private_sale')],
+    'Buying shares': [
+        Made('rows', 'certs: share_purchase_rules'),
+        Made('events', 'stock_round: after_start'),
+        Made('events', 'stock_round: after_purchase')],
+    'Sales': [Made('rows', 'certs: sale_rules'), Made('events', 'certs: after_sale')],
+    'The exchange of MH': [Made('rows', 'stock_round: exchange_rules'), Made('events', 'stock_round: after_exchange')],
+    'Lays': [Made('rows', 'board: lay_rules'), Made('events', 'operating: after_lay')],
+    'Tokens': [Made('rows', 'board: token_rules'), Made('events', 'operating: after_token')],
+    'Runs': [Made('rows', 'operating: rules_of_turn'), Made('rows', 'legal_runs: rules_of_run')],
+    'Dividends': [Made('rows', 'operating: pay_rules'), Made('events', 'certs: paid_out'), Made('events', 'operating: withheld')],
+    'Offers': [Made('rows', 'purchases: offer_rules')],
+    'Buying trains': [Made('rows', 'purchases: train_purchase_rules'), Made('events', 'purchases: after_train')],
+    'Privates that companies buy': [Made('rows', 'purchases: private_rules'), Made('events', 'purchases: private_bought')],
+    'Which trains are given up': [Made('rows', 'purchases: discard_rules')],
+}
 
 # What the definitions that are hardest to read say, taken together, in the chapter that brings the first of them.
 NOTES: list[tuple[str, str]] = [
@@ -44,9 +99,9 @@ NOTES: list[tuple[str, str]] = [
      'private are equal.'),
     ('operating: LinesLead', 'Line after line, each leading from the turn before it to the turn after it. A line with a fault ends in '
      '`ReadingLeads`, one whose condition does not hold in `AskedLeads`, and an order in `OrderLeads`, by its own definition.'),
-    ('board: IsLayAnswer', '`reached` is a guess that `exact` makes right: where none of the rules before L9 is broken, it is true exactly if the '
-     'company reaches some piece of the tile. Then the answer is the first rule that is broken, or the cost. Where one of those rules is '
-     'broken, `reached` does not matter.'),
+    ('board: IsLayAnswer', '`reached` is a value fixed by `exact`: if none of the rules before L9 is broken, it is true exactly if the company '
+     'reaches some piece of the tile. Then the answer is the first rule that is broken, or the cost. If one of those rules is broken, `reached` '
+     'does not matter.'),
     ('board: IsTokenAnswer', '`reached` is true exactly if the company reaches the place, where none of the rules before K5 is broken.'),
     ('legal_runs: walk_named', 'The train begins at the stop of the first place. `leg_to` is the step or the two steps to the next place, if '
      'there is such track, and `travelled` goes on from there. `with_leg` adds the steps to what was made so far: here a walk, in which '
@@ -67,9 +122,49 @@ NOTES: list[tuple[str, str]] = [
      'it, unless that begins with a ROUND event.'),
     ('operating: Course', 'A course leads from somewhere to somewhere else, or to a fault, and makes calls of whoever answers RUN BEST. `Then` is '
      'one course after another, with the calls of both, and `SomeTimesThen` some number of the first before the second.'),
+    ('certificate: Hold', 'Marks hold at a node in two ways. `cut`: the mark is 0, and the bound of the node is at most the claimed revenue. '
+     '`split`: the first mark is 1, the node is no leaf, and the marks behind it hold at its children, one after the other (`HoldInTurn`).'),
     ('umpire: from_divider', 'Of all lines `CERTS 1` the last counts: the text is looked at from each of its bytes that begins a line, and what '
      'lies further back comes first in `option_or`.'),
 ]
+
+# What is said of a file of specs/ in the place of its own comment, which speaks of more than the chapters have.
+FILES = {
+    'reach/Walk': ['Walks over the track of a position. A link joins two ends in one hex, each a side of the hex or a stop. A walk is a list of '
+                   'links. Steps are listed last to first. Each link is entered at one of its ends and left at the other, and is joined to the next at a '
+                   'stop, or at the border between their two hexes.'],
+    'certificate/Holding': ['Which marks hold at a node (`Hold`), and how marks are read over a list of nodes that lie ahead (`left_over`).'],
+}
+
+# A sentence for each definition whose own comment only has a meaning beside its neighbours, or that has none.
+SENTENCES = {
+    'certificate: for_each': 'what a function gives for each of some things, one list after the other',
+    'desk_base: objection_at_side': 'what is said against a tile for a side at which its track would be bad; nothing if there is no such side',
+    'desk_base: objection_by': 'that another player presides, if one does',
+    'desk_check: begun_by': 'where the lines stand after the head of a turn, or of a company\'s orders',
+    'desk_check: begun_with': 'the lines on which orders begin, and the one of this company, unless its orders began before',
+    'desk_check: block_by': 'where the orders of a company stand after one that has a place in their sequence',
+    'desk_check: passed_by': 'the rule that an order breaks since its step is past, if it has such a rule',
+    'desk_check: presided': 'what is said of the head of a company\'s orders by the game in which the round begins, if that is known',
+    'desk_check: presided_by': 'that another player presides over the company, if one does',
+    'desk_check: replacing_if': 'the sheet that a later one replaces, if it replaces one',
+    'desk_check: said_of_head': 'what is said of the head of a turn or of a company\'s orders',
+    'desk_check: said_of_order': 'what is said of an order',
+    'map_tables: always': 'a value that is the same before and from phase 5',
+    'market: moved_from': 'the list with MOVES, if the token leaves the square that it is on',
+    'markup: read_at': 'what a reader finds from this place on, while these elements are open',
+    'moves: only_if': 'a list if something is true, otherwise the empty list',
+    'moves: private_order': 'the order by which a company buys a private at a price',
+    'moves: train_order': 'the order by which a company buys a train of a kind from a source',
+    'moves: IsExact': 'a list has a thing with a price exactly if the rules give that price for it',
+    'privates: is_the': 'there is a private, and it is this one',
+    'purchases: is_kind': 'there is a kind, and it is this one',
+    'report: is_the_round': 'there is a round, and it is this one',
+    'desk_round: is_round': 'there is a round, and it is this one',
+    'legal_runs: is_hex': 'a hex is the one that is looked for',
+    'rounds: with_round': 'a list of rounds, behind one more if there is one',
+    'totals: now_said': 'what holds now: what the last event that speaks of it says, which may be that nothing does',
+}
 
 # Laws beside the definitions, which are proved, and examples that the crates of the rules state as laws. The examples of crates/rulebook
 # say themselves which chapter they belong to.
@@ -86,6 +181,12 @@ LAWS = [
         ('a_greatest_exists', 'one_greatest'), 'Proved'),
     Law('certificates', 'a certificate that is accepted shows the greatest revenue', 'certificate/specs/HoldingLaws', ('AcceptedIsGreatest',),
         ('accepted_is_greatest',), 'Proved'),
+    Law('before-a-round', 'a lay or a token is listed with a price exactly if the rules allow it at that price', 'moves/specs/Exact',
+        ('IsExact', 'LaysAreExact', 'TokensAreExact'), ('lays_are_exact', 'tokens_are_exact'), 'Proved'),
+    Law('before-a-round', 'a listed lay is obeyed as the first line, and no other is', 'moves/specs/TurnLaws',
+        ('AreLaysAtStart', 'IsLayRefused', 'ListedLaysAreObeyed', 'OtherLaysAreRefused'), ('first_lay_is_by_the_list',), 'Proved'),
+    Law('before-a-round', 'play comes to a first turn if nobody else has orders', 'foresight/specs/Reached',
+        ('FirstTurnsAreReached', 'HeadsAreReached'), ('play_reaches_first_turns',), 'Proved'),
     Law('opening-round', 'an opening round of a file', 'rounds/specs/Example', ('first_file', 'first_events', 'first_end'), ('first_example',)),
     Law('stock-round', 'a stock round of a file', 'rounds/specs/Example', ('second_file', 'second_opening', 'second_stock_round', 'second_end'),
         ('second_example',)),
@@ -94,14 +195,18 @@ LAWS = [
     Law('certificates', 'a tree and its marks', 'certificate/specs/Example', (), ('worked_tree', 'worked_marks')),
 ]
 
+# The chapters of what the contracts of a claim name, if no other chapter has that. The claims of the umpire have `streams`.
+CHAPTER_OF = {'what is told before a round': 'before-a-round', 'what is told of a round': 'desk'}
+
+
 def chapters() -> list[Chapter]:
-    """Returns the chapters, empty."""
-    def rules(file: str, *headings: str, roots: str = '', files: str = '') -> Chapter:
-        return Chapter(file, headings[0], [('rules.md', heading) for heading in headings], roots.split(', ') if roots else [], files.split())
+    """Returns the chapters, empty. tools/rulebook/own has what a chapter says beside the players' pages, under its file name."""
+    def rules(file: str, *headings: str, roots: str = '', files: str = '', steps: str = '') -> Chapter:
+        sections = [('rules.md', heading) for heading in headings] + [('steps.md', steps)] * bool(steps)
+        return Chapter(file, headings[0], sections, roots.split(', ') if roots else [], files.split())
 
     def other(file: str, title: str, page: str, *headings: str, roots: str = '', files: str = '') -> Chapter:
-        text = '' if headings else '[`%s`](%s) says what each word prints. Here is what that rests on.\n' % (page, page)
-        return Chapter(file, title, [(page, heading) for heading in headings], roots.split(', ') if roots else [], files.split(), text)
+        return Chapter(file, title, [(page, heading) for heading in headings], roots.split(', ') if roots else [], files.split())
 
     return [
         rules('the-game', 'The game', files='rounds/Play rounds/Sequence report/EndWorth'),
@@ -111,16 +216,16 @@ def chapters() -> list[Chapter]:
         rules('market', 'The market', files='market/Moves market/Token tables/Chart'),
         rules('trains-and-phases', 'Trains and phases', files='totals/Trains tables/Train'),
         rules('priority', 'Priority'),
-        rules('conditions', 'Conditions', files='history/Conditions'),
+        rules('conditions', 'Conditions', steps='Conditions, step by step', files='history/Conditions'),
         rules('bids', 'Bids', files='privates/Auction privates/Sale privates/Limit privates/Bid privates/Standing totals/Bids'),
-        rules('opening-round', 'An opening round', 'What becomes of a line of an opening', 'Two openings, step by step',
+        rules('opening-round', 'An opening round', 'What becomes of a line of an opening', steps='Two openings, step by step',
               files='privates/Opening privates/Turn privates/Closing privates/Buy turns/RoundOfTurns turns/Ruling tables/Turns tables/Rules'),
-        rules('stock-round', 'A stock round', 'A stock round, step by step',
+        rules('stock-round', 'A stock round', steps='A stock round, step by step',
               files='stock_round/StockRound stock_round/Turn stock_round/Standing stock_round/Orders stock_round/Deals stock_round/Closing'),
         rules('buying-shares', 'Buying shares', files='certs/Purchase stock_round/Buy stock_round/Par'),
         rules('sales', 'Sales', files='certs/Sale certs/SaleAct stock_round/Sell'),
         rules('exchange', 'The exchange of MH', files='stock_round/Exchange'),
-        rules('operating-round', 'An operating round', 'Operating rounds, step by step',
+        rules('operating-round', 'An operating round', steps='Operating rounds, step by step',
               files='rounds/OperatingRound totals/Operating market/OperatingOrder purchases/Standing'),
         rules('company-turn', "A company's turn", roots='operating: OrderLeads, operating: LinesLead',
               files='operating/Turn operating/TurnEnd operating/CompanyOrders operating/TurnState operating/Progress operating/HomeToken '
@@ -132,14 +237,14 @@ def chapters() -> list[Chapter]:
               'operating/CompletedRuns'),
         rules('best-runs', 'RUN BEST', files='legal_runs/Set operating/RunBest'),
         rules('dividends', 'Dividends', files='certs/Dividend operating/Pay'),
-        rules('consent', 'Consent', 'Three presidents deal, step by step',
+        rules('consent', 'Consent', steps='Three presidents deal, step by step',
               files='purchases/Offer purchases/Consents events/Offers totals/Offers'),
-        rules('buying-trains', 'Buying trains', 'Trains, step by step', files='purchases/Train operating/Train'),
+        rules('buying-trains', 'Buying trains', steps='Trains, step by step', files='purchases/Train operating/Train'),
         rules('forced-purchase', 'The train that a company must buy',
               files='forced_purchase/Forced forced_purchase/Raise forced_purchase/Shortfall legal_runs/TwoTrain'),
         rules('buying-privates', 'Privates that companies buy', files='purchases/Private operating/Private'),
         rules('new-phase', 'A new phase', files='purchases/Phases purchases/Discard'),
-        rules('own-rules', "What is this project's own"),
+        rules('own-rules', 'House rules'),
         other('map', 'The map and its tiles', 'map.md', 'Hexes and sides', 'Stops', 'Companies and privates on the map', 'Tiles',
               files='map_tables/Hex map_tables/Print map_tables/Tile map_tables/Track map_tables/Side map_tables/Border map_tables/Home '
               'map_tables/Place map_tables/OnMap map_tables/Lay map_tables/Laws'),
@@ -152,11 +257,13 @@ def chapters() -> list[Chapter]:
         other('report', 'The report', 'formats.md', 'The report:',
               files='report/Report report/Statement report/Line report/Column order_grammar/Print events/RuleCodes '
               'map_tables/RuleCodes tables/RuleTexts events/RulingText'),
-        other('certificates', 'Certificates', 'formats.md', 'A certificate',
+        other('certificates', 'Certificates', '../programs/certificates.md', 'What a certificate shows', 'The text of certificates',
+              'How a game is verified',
               files='certificate/Tree certificate/Holding certificate/Digits certificate/Checked certificate/Filled umpire/Groups '
               'umpire/InputSplit umpire/Written operating/TurnCalls operating/Calls rounds/GameCalls rounds/Faults legal_runs/Claim '
               'umpire/Certified'),
         other('version-2', 'Migrating to version 2', 'formats.md', 'Migrating to version 2', files='umpire/Migrated'),
         other('streams', 'What is read and written', 'formats.md', 'The program', files='umpire/Run umpire/Failure umpire/Watched umpire/Verify'),
-        other('desk', 'What the desk writes', 'desk.md'),
+        Chapter('before-a-round', 'What is told before a round', []),
+        Chapter('desk', 'What is told of a round', []),
     ]

@@ -22,6 +22,7 @@ class Example:
     code: str
     path: str
     heading: str = 'Computed'
+    names: tuple[tuple[str, str], ...] = ()  # the definitions that it shows
 
 
 @dataclass(frozen=True)
@@ -74,6 +75,12 @@ def statement(part: str) -> str:
     return '\n'.join(lines[:end])
 
 
+def without_verb(comment: str) -> str:
+    """Returns what the comment of a law says, without the verb that a function's comment begins with."""
+    text = re.sub(r'^States (?:that )?', '', comment)
+    return text[:1].upper() + text[1:]
+
+
 def law_example(root: str, modules: dict[str, specs.Module], law: Law) -> Example:
     """Returns what functions state."""
     module, crate = modules[law.file], law.file.partition('/')[0]
@@ -83,11 +90,13 @@ def law_example(root: str, modules: dict[str, specs.Module], law: Law) -> Exampl
         contract = sources.find_contract(root, crate, function)
         if contract is None:
             raise ValueError('no law %s: %s' % (crate, function))
-        parts.append('-- it holds: %s\n%s\n' % (function, re.search(r'ensures \{ (.*?) \}', contract.text, re.S).group(1)))
+        stated = re.findall(r'ensures (?:\w+ )?\{ (.*?) \}$', contract.text, re.S | re.M)
+        parts.append('-- it holds: %s\n%s\n' % (function, '\n'.join(stated)))
     names = ' and '.join('`%s: %s`' % (crate, function) for function in law.functions)
     comment = '' if law.definitions else ' '.join(module.comment) + ' '
-    says = ' '.join(sources.find_comment(root, crate, function) for function in law.functions)
-    return Example(law.chapter, law.title, '%s%s (%s)' % (comment, says, names), '\n'.join(parts), 'crates/%s.antt' % law.file, law.heading)
+    says = ' '.join(without_verb(sources.find_comment(root, crate, function)) for function in law.functions)
+    shown = tuple((law.file, one.name) for one in named)
+    return Example(law.chapter, law.title, '%s%s (%s)' % (comment, says, names), '\n'.join(parts), 'crates/%s.antt' % law.file, law.heading, shown)
 
 
 def all_examples(root: str, modules: dict[str, specs.Module], laws: list[Law]) -> list[Example]:

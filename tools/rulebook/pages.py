@@ -7,19 +7,33 @@ from collections import Counter
 
 import specs
 from rulebook import shapes
-from rulebook.chapters import Chapter, Index
+from rulebook.chapters import HEADING, Chapter, Headed, Index, Made
 from rulebook.examples import Example
 from rulebook.kinds import Kind, kind_of
 from rulebook.reach import House, Name, Reach
 from rulebook.shapes import Shapes, cite, table
 
 MADE = '<!-- `tools/claim --write` made this page. -->\n'
-BLOCK = re.compile(r'(<!-- (rows|events|columns|chart|forms) (\w+): ([^>]*?) -->\n)(.*?)(<!-- end -->\n)', re.S)
-HEADED = re.compile(r'^Definition `(\w+): (\w+)` · function `(\w+): (\w+)` · game `([\w./-]+)`$', re.M)
+BLOCK = re.compile(r'(<!-- (columns|chart|forms) (\w+): ([^>]*?) -->\n)(.*?)(<!-- end -->\n)', re.S)
 
 
 def wrap(text: str) -> str:
     return textwrap.fill(text, 120, break_long_words=False, break_on_hyphens=False) + '\n'
+
+
+def wrap_comment(lines: list[str]) -> str:
+    """Returns a comment as paragraphs and lists: a line that begins with a hyphen is an item."""
+    parts: list[str] = ['']
+    for line in lines:
+        if not line or line.startswith('- '):
+            parts.append('')
+        parts[-1] = (parts[-1] + ' ' + line).strip()
+    text = ''
+    for part in filter(None, parts):
+        is_item = part.startswith('- ')
+        text += ('' if not text or (is_item and last_item) else '\n') + (wrap_item(part) if is_item else wrap(part))
+        last_item = is_item
+    return text
 
 
 def wrap_item(text: str) -> str:
@@ -35,7 +49,7 @@ def with_blocks(page: str, made: Shapes) -> str:
             made.shown |= {one} if shape in ('chart', 'forms') else set()
             if shape == 'forms':
                 return head + made.forms_table(one, dict(re.findall(r'^\| `(.*?)` \| (.*) \|$', inside, re.M))) + end
-            return head + {'rows': made.rows_table, 'events': made.events_table, 'chart': made.chart}[shape](one) + end
+            return head + (made.chart(one) if shape == 'chart' else '') + end
         parts = [part.split(' = ') for part in rest.split('; ')]
         names = [named(made.index, crate, name) for name, _ in parts[1:]]
         made.shown |= set(names)
@@ -51,20 +65,27 @@ def named(index: Index, crate: str, name: str) -> Name:
     return one
 
 
-def without_marks(text: str) -> str:
+def for_readers(page: str) -> str:
     """Returns a text of the players without the marks of its made tables, and with its links as they are from the rulebook."""
-    text = re.sub(r'<!-- (?:rows|events|columns|chart|forms) .*? -->\n|<!-- end -->\n', '', text)
-    text = HEADED.sub(lambda found: 'Definition `%s: %s` · function `%s: %s` · game [`%s`](../../games/%s.orders), [its report]'
-                      '(../../games/%s.report)' % (found.groups() + found.groups()[-1:] * 2), text)
-    return re.sub(r'\]\((?!\.\./|https?:)([\w.-]+\.md)', r'](../players/\1', text)
+    text = re.sub(r'<!-- (?:columns|chart|forms) .*? -->\n|<!-- end -->\n', '', page)
+    text = re.sub(r'\]\(\.\./docs/', '](../', text)
+    return re.sub(r'\]\((?!\.\./|https?:)((?:[\w.-]+\.md)?(?:#[\w-]+)?)\)', lambda found: '](../players/%s)' % (
+        found.group(1) if not found.group(1).startswith('#') else 'rules.md' + found.group(1)), text)
+
+
+def stated_line(of: Headed) -> str:
+    """Returns the line below a heading: what states its rule, and the game that shows it."""
+    return ('Definition `%s` · function `%s` · game [`%s`](../../games/%s.orders), [its report](../../games/%s.report)\n'
+            % (of.definition, of.function, of.game, of.game, of.game))
 
 
 class Book:
     """The rulebook: its chapters with the definitions that they bring."""
 
     def __init__(self, house: House, chapters: list[Chapter], made: Shapes, order: list[str], examples: list[Example],
-                 notes: list[tuple[str, str]]):
-        self.house, self.chapters, self.made, self.order, self.examples, self.notes = house, chapters, made, order, examples, notes
+                 notes: list[tuple[str, str]], headed: dict[str, Headed], below: dict[str, list[Made]], files: dict[str, list[str]]):
+        self.house, self.chapters, self.made, self.order = house, chapters, made, order
+        self.examples, self.notes, self.headed, self.below, self.files = examples, notes, headed, below, files
         self.kinds = {one: kind_of(house.definition(one)) for chapter in chapters for one in chapter.brings}
         self.number = {id(chapter): number for number, chapter in enumerate(chapters, 1)}
 
@@ -73,14 +94,38 @@ class Book:
 
     def page(self, chapter: Chapter) -> str:
         """Returns the page of a chapter."""
-        text = '# %d. %s\n\n%s\n' % (self.number[id(chapter)], chapter.title, MADE) + without_marks(chapter.text)
+        text = '# %d. %s\n\n%s\n' % (self.number[id(chapter)], chapter.title, MADE) + self.words(chapter)
         text += ''.join(self.example(one) for one in self.examples if one.chapter == chapter.file)
+        shown = {name for one in self.examples if one.chapter == chapter.file for name in one.names}
         by_kind = {kind: [one for one in chapter.brings if self.kinds[one] is kind] for kind in Kind}
         if not chapter.brings:
             return text
         text += '\n## Definitions\n\n' + wrap(self.count(by_kind)) + self.in_words(chapter)
+        by_kind = {kind: [one for one in ones if one not in shown] for kind, ones in by_kind.items()}
         text += self.tables(by_kind[Kind.TABLE], chapter.text)
         return text + self.code('Rules', by_kind[Kind.RULE]) + self.code('Plumbing', by_kind[Kind.PLUMBING]) + self.needs(chapter)
+
+    def words(self, chapter: Chapter) -> str:
+        """Returns the text of a chapter: each section with what states its rules before its words, and with its tables behind them."""
+        text, heading, at = '', chapter.sections[0][1] if chapter.sections else '', 0
+        for found in [*HEADING.finditer(chapter.text), None]:
+            text += self.section(heading, chapter.text[at:found.start() if found else None])
+            if found:
+                text, heading, at = text + found.group() + '\n', found.group(1), found.end()
+        return re.sub(r'\n{3,}', '\n\n', text).strip('\n') + '\n'
+
+    def section(self, heading: str, text: str) -> str:
+        """Returns the text of a section below its heading."""
+        stated = '\n' + stated_line(self.headed[heading]) if heading in self.headed else ''
+        tables = ''.join(self.made_table(one) for one in self.below.get(heading, []))
+        return stated + '\n' + for_readers(text).strip('\n') + '\n' + tables + '\n'
+
+    def made_table(self, made: Made) -> str:
+        """Returns a table of rules or of events, with a sentence before it."""
+        one = named(self.made.index, *made.name.split(': '))
+        if made.shape == 'rows':
+            return '\nThe rules of %s, in the order in which they are tried:\n\n%s' % (cite(one), self.made.rows_table(one))
+        return '\nThe events of %s:\n\n%s' % (cite(one), self.made.events_table(one))
 
     def needs(self, chapter: Chapter) -> str:
         """Returns what the definitions of a chapter use of other chapters."""
@@ -96,8 +141,8 @@ class Book:
         words = {Kind.RULE: 'rules', Kind.TABLE: 'tables', Kind.PLUMBING: 'of plumbing'}
         parts = ['%d %s in %d lines' % (len(ones), words[kind], self.house.lines(set(ones))) for kind, ones in by_kind.items() if ones]
         parts = [re.sub(r'^1 (rule|table)s', r'1 \1', part) for part in parts]
-        return ('This chapter is the first that needs these: %s. `README.md` says how to read them; a file comes before those that it '
-                'uses, and a definition before those that it uses.' % ', '.join(parts))
+        return ('This chapter is the first that needs these: %s. [How to read them](README.md#how-to-read-a-definition). A definition comes '
+                'before those that it uses.' % ', '.join(parts))
 
     def in_words(self, chapter: Chapter) -> str:
         """Returns what the definitions of a chapter that are hardest to read say, taken together."""
@@ -141,9 +186,13 @@ class Book:
         for key in sorted({key for key, _ in ones}, key=self.order.index):
             inside = sorted((one for one in ones if one[0] == key), key=lambda one: -self.house.definition(one).number)
             text += '\n#### `%s`\n\n' % key.replace('/specs/', ': specs/')
-            text += wrap(' '.join(self.house.modules[key].comment)) + '\n' if title == 'Rules' and self.is_first(key, ones) else ''
+            text += wrap_comment(self.comment_of(key)) + '\n' if title == 'Rules' and self.is_first(key, ones) else ''
             text += '```agda\n' + '\n'.join(self.text_of(one) for one in inside) + '```\n'
         return text
+
+    def comment_of(self, key: str) -> list[str]:
+        """Returns what a file says of itself, or what is said in its place."""
+        return self.files.get(key.replace('/specs/', '/'), self.house.modules[key].comment)
 
     def is_first(self, key: str, ones: list[Name]) -> bool:
         """Returns whether these are of the chapter that is the first to have rules of a file."""
@@ -167,7 +216,25 @@ class Book:
             rows.append(['`%s: %s`' % one, of.sentence(), '`%s`' % of.file, seen_as(of)])
         text = ('A definition names types of the source: enums and structs. This page has each of them, with the file where it stands. Where a '
                 'type has a model, definitions see the value that the model makes of it, and none of its fields.')
-        return '# Types of the source\n\n%s\n' % MADE + wrap(text) + '\n' + table(['Type', 'What it is', 'File', 'Definitions see'], rows)
+        text = '# Types of the source\n\n%s\n' % MADE + wrap(text) + '\n' + table(['Type', 'What it is', 'File', 'Definitions see'], rows)
+        return text + self.written(types)
+
+    def written(self, types: set[Name]) -> str:
+        """Returns how definitions write the forms of these types: behind which prefixes, and which of them under another name."""
+        prefixes: dict[Name, set[str]] = {}
+        others: dict[Name, set[str]] = {}
+        for key in {key for key, _ in self.kinds}:
+            for local, (target, name) in self.house.modules[key].imports.items():
+                one = self.house.type_at((target, '')) if target.endswith('/TheVariants') or name is None else None
+                if one in types and name is None:
+                    prefixes.setdefault(one, set()).add('`%s.`' % local)
+                elif one in types and local != name:
+                    others.setdefault(one, set()).add('`%s` is `%s`' % (local, name))
+        rows = [['`%s: %s`' % one, ', '.join(sorted(prefixes.get(one, ()))), ', '.join(sorted(others.get(one, ())))]
+                for one in sorted(prefixes.keys() | others.keys())]
+        text = ('A definition writes a form of a type alone, as `Bought`, or behind a prefix, as `event.Bought`: these are the same. Some files '
+                'give a form another name, where two types have forms of one name.')
+        return '\n## How forms are written\n\n' + wrap(text) + '\n' + table(['Type', 'Prefixes', 'Other names'], rows)
 
     def chapters_table(self) -> str:
         """Returns the table of chapters, with what each brings."""

@@ -68,6 +68,11 @@ def folded(heads: list[str], rows: list[list[str]]) -> str:
     return table(heads * 4, [sum(beside, []) for beside in zip(*columns)])
 
 
+def is_negated(term: str) -> bool:
+    """Returns whether a term is `not` of all that follows."""
+    return bool(re.fullmatch(r'not (?:[\w.]+|%s)' % INNER, term.strip()))
+
+
 def stripped(term: str) -> str:
     """Returns a term without the brackets around it."""
     text = term.strip('() ')
@@ -131,11 +136,12 @@ class Shapes:
         variant = self.variant(one[0], code)
         number, text = self.texts.get(variant or ('', ''), ('', code))
         names, shown = [], []
-        for part in re.split(r' (?:\|\||&&) ', test.removeprefix('not ').strip() if test.startswith('not ') else test):
+        for part in re.split(r' (?:\|\||&&) ', stripped(test.removeprefix('not ')) if is_negated(test) else test):
             found = self.tests_in(one[0], part)
             names += found
-            shown += [cite(name) for name in found] or ['`%s`' % stripped(part)]
-        negated = 'not ' if test.startswith('not ') else ''
+            negated = 'not ' if is_negated(part) else ''
+            shown += [negated + cite(name) for name in found] or [negated + '`%s`' % stripped(part.removeprefix('not '))]
+        negated = 'not ' if is_negated(test) else ''
         return Row(number, text, negated + ', '.join(dict.fromkeys(shown)), place(next(iter(names), one)))
 
     def tests_in(self, key: str, term: str) -> list[Name]:
@@ -146,6 +152,7 @@ class Shapes:
         return [self.follow(key, word) for word in dict.fromkeys(kept or words)]
 
     def rows_table(self, one: Name) -> str:
+        """Returns the rules of a table, each with its test and with the file that has it."""
         return table(['Code', 'Refused if', 'Test', 'Stands in'], [[row.code, row.sentence, row.test, row.place] for row in self.rows(one)])
 
     def records(self, one: Name) -> bool:
@@ -179,9 +186,10 @@ class Shapes:
 
     def step(self, event: str, one: Name) -> Step:
         says = variant_comments(self.house.types[('events', 'Event')]).get(event, '')
-        return Step(EVENT_WORDS.get(event, event.upper()), says, ' '.join(self.house.definition(one).comment), one)
+        return Step(EVENT_WORDS.get(event, event.upper()), for_players(says), for_players(' '.join(self.house.definition(one).comment)), one)
 
     def events_table(self, one: Name) -> str:
+        """Returns the events that an act may record, each with what it says, when it comes, and what records it."""
         rows = [[step.word, sentence(step.says), sentence(step.when), cite(step.name)] for step in self.steps(one)]
         return table(['Event', 'What it says', 'It is recorded', 'By'], rows)
 
@@ -252,6 +260,11 @@ class Shapes:
         for letter, row in zip('ABCDEFGHIJK', cells):
             lines.append(letter + ' ' + ' '.join('%*s' % (width, cell) for width, cell in zip(widths, row)))
         return '```\n%s\n```\n' % '\n'.join(lines)
+
+
+def for_players(text: str) -> str:
+    """Returns a sentence of the source with the words that players use: the source has seats for players, and speaks of the bank pool."""
+    return re.sub(r'\b([Tt]he|[Aa]|[Tt]his) seat\b', r'\1 player', text).replace('bank pool', 'pool')
 
 
 def without_repeats(steps: list[Step]) -> list[Step]:

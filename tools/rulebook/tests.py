@@ -10,7 +10,7 @@ import unittest
 sys.dont_write_bytecode = True
 sys.path.insert(0, os.path.dirname(os.path.dirname(os.path.abspath(__file__))))
 import specs  # noqa: E402
-from rulebook import chapters, examples, kinds, pages, reach, shapes, sources, terms  # noqa: E402
+from rulebook import chapters, claims, examples, kinds, pages, reach, shapes, sources, terms  # noqa: E402
 
 RULES = '''-- What a sale is.
 use Rattle.std.specs.Prelude.{ℕ, ◌+◌, ◌==◌, Bool, true, false, not, List, [], ◌∷◌, ◌++◌, Option, Some, None, codes}
@@ -247,7 +247,23 @@ class TestShapes(unittest.TestCase):
         page = 'A\n<!-- columns shop: case = Kind; price = Price -->\nold\n<!-- end -->\nB\n'
         self.assertIn('| large | 10 |\n<!-- end -->\nB', pages.with_blocks(page, self.shapes))
         with self.assertRaises(ValueError):
-            pages.with_blocks('<!-- rows shop: no_such_rules -->\n<!-- end -->\n', self.shapes)
+            pages.with_blocks('<!-- chart shop: no_such_chart -->\n<!-- end -->\n', self.shapes)
+
+
+class TestClaims(unittest.TestCase):
+    """The table of sentences and clauses."""
+
+    PAGE = ('<!-- Clauses of the claims. -->\n\n| Claim | Sentence | Clauses |\n|---|---|---|\n%s\n<!-- End of the clauses. -->\n')
+
+    def test_a_row_without_a_title_is_of_the_claim_above(self):
+        found = claims.read_claims(self.PAGE % '| `run`: it | a | `shop: sold` |\n| | b | `shop: paid`, `shop: sold` |\n| told | c | `desk: told` |\n')
+        self.assertEqual(found, [claims.Claim('`run`: it', ['shop: sold', 'shop: paid']), claims.Claim('told', ['desk: told'])])
+        self.assertEqual([claim.is_umpires() for claim in found], [True, False])
+
+    def test_each_sentence_has_a_clause(self):
+        for page in ('no table', self.PAGE % '| `run` | a | in words |\n', self.PAGE % '| | a | `shop: sold` |\n'):
+            with self.assertRaises(ValueError):
+                claims.read_claims(page)
 
 
 class TestChapters(unittest.TestCase):
@@ -266,9 +282,28 @@ class TestChapters(unittest.TestCase):
         reached = {named(name) for name in house.modules['shop/specs/Rules'].definitions}
         page = '## Sales\n\n(`shop: sale_rules`)\n\n## Counts\n\n`shop: counted` and `sold`\n\n## Rest\n\n'
         listed = [chapters.Chapter(title, title, [('page', title)]) for title in ('Sales', 'Counts', 'Rest')]
-        chapters.fill(listed, {'page': page}, chapters.Index(house, reached), {'Rest': [named('price')]})
+        chapters.fill(listed, {'page': page}, chapters.Index(house, reached), {'Rest': [named('price')]}, {})
         brings = [{name for _, name in chapter.brings} for chapter in listed]
         self.assertEqual(brings, [{'sale_rules', 'is_empty', 'Rule'}, {'counted', 'sold', 'paid'}, {'price', 'count_in', 'over', 'text_of'}])
+
+    def test_what_states_a_section_is_of_its_chapter(self):
+        house = shop()
+        reached = {named(name) for name in house.modules['shop/specs/Rules'].definitions}
+        listed = [chapters.Chapter(title, title, [('page', title)]) for title in ('Sales', 'Counts')]
+        stated = {'Counts': ['shop: price'], 'Inner': ['shop: sold']}
+        chapters.fill(listed, {'page': '## Sales\n\nIt is so.\n\n### Inner\n\n## Counts\n'}, chapters.Index(house, reached), {}, stated)
+        self.assertEqual([{name for _, name in chapter.brings} & {'sold', 'price'} for chapter in listed], [{'sold'}, {'price'}])
+
+    def test_words_of_a_chapter(self):
+        house = shop()
+        index = chapters.Index(house, set())
+        chapter = chapters.Chapter('sales', 'Sales', [('page', 'Sales')], text='See [it](#sales), [more](map.md#x).\n\n### Inner\n\nMore.\n')
+        headed = {'Inner': chapters.Headed('shop: price', 'shop: is_empty', 'first')}
+        below = {'Sales': [chapters.Made('rows', 'shop: sale_rules')]}
+        book = pages.Book(house, [chapter], shapes.Shapes(house, index), [], [], [], headed, below, {})
+        self.assertRegex(book.words(chapter), r'(?s)^See \[it\]\(../players/rules.md#sales\), \[more\]\(../players/map.md#x\).\n\n'
+                         r'The rules of `shop: sale_rules`.*\| S2 \| it is late \| not `late` \|.*\n\n### Inner\n\n'
+                         r'Definition `shop: price` · function `shop: is_empty` · game \[`first`\].*\n\nMore\.\n$')
 
     def test_example(self):
         text = '-- Example for the chapter `sales`: a sale.\n-- Two are sold.\nuse Rattle.shop.specs.Rules.{price}\n\nabbrev pub it : Kind\nit = Small\n\n-- five\npub small : price it ≡ 5\nunfolding price\n    it\nsmall = refl\n'
