@@ -1,6 +1,7 @@
 # The part `docs`: the names that the documents cite exist, the picture of the crates is that of
 # crates.txt, the rulebook and the counts of what the claims rest on are fresh, a second count gives
-# the same, the examples at the roots of crates are tests, and each lemma is cited and each import used.
+# the same and finds each definition that a clause reaches in a chapter, the examples at the roots of
+# crates are tests, and each lemma is cited and each import used.
 
 check_docs() {
   take_over tools/names
