@@ -34,7 +34,7 @@ docs_must_fail() {
   printf '\nAnother line.\n' >> "$wrong/docs/rulebook/13-sales.md"
   sees 'a chapter that is not fresh' 1 take_over "$wrong/tools/claim" --check
   cp docs/rulebook/13-sales.md "$wrong/docs/rulebook"
-  sed -i 's/ sells n shares / sells k shares /' "$wrong/docs/players/rules.md"
+  sed -i 's/^`SELL co n` sells n shares/`SELL co n` sells k shares/' "$wrong/docs/players/rules.md"
   sees 'a chapter in other words than the rules for players' 1 take_over "$wrong/tools/claim" --check
   sed -i 's/| SV | 20 |/| SV | 25 |/' "$wrong/docs/players/rules.md"
   sees 'a made table with another number' 2 take_over "$wrong/tools/claim" --check
