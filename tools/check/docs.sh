@@ -34,18 +34,21 @@ docs_must_fail() {
   printf '\nAnother line.\n' >> "$wrong/docs/rulebook/13-sales.md"
   sees 'a chapter that is not fresh' 1 take_over "$wrong/tools/claim" --check
   cp docs/rulebook/13-sales.md "$wrong/docs/rulebook"
-  sed -i 's/^`SELL co n` sells n shares/`SELL co n` sells k shares/' "$wrong/docs/players/rules.md"
+  # shellcheck disable=SC2016
+  sed -i 's/` sells n shares /` sells k shares /' "$wrong/docs/players/rules.md"
   sees 'a chapter in other words than the rules for players' 1 take_over "$wrong/tools/claim" --check
   sed -i 's/| SV | 20 |/| SV | 25 |/' "$wrong/docs/players/rules.md"
   sees 'a made table with another number' 2 take_over "$wrong/tools/claim" --check
   sed 's/^\(| `run`[^|]*| \)[0-9]*/\10/' docs/developers/claim.md > "$scratch/counts.md"
   sees 'a count that is not the other' 1 take_over tools/recount --counts "$scratch/counts.md"
+  # shellcheck disable=SC2016
   sed '/^| `run`/s/`umpire: run`/&, `rounds: games_end_once`/' docs/developers/proof.md > "$scratch/clauses.md"
   sees 'a clause that the chapters leave out, and three counts without it' 4 take_over tools/recount --clauses "$scratch/clauses.md"
   rm -r "$wrong/docs" && cp -r docs "$wrong"
   sed -i 's/\bNoneHasCode\b/NoneHasIt/' "$wrong/docs/rulebook/36-desk.md"
   sees 'a definition that its chapter leaves out' 1 take_over "$wrong/tools/recount"
   cp docs/rulebook/36-desk.md "$wrong/docs/rulebook"
+  # shellcheck disable=SC2016
   sed -i 's/`desk_state: all_in_order`, //' "$wrong/docs/developers/proof.md"
   sees 'a sentence that is gone, with its chapter, names and counts' 4 take_over "$wrong/tools/claim" --check
   sed 's/^market: /&desk_base /' crates.txt > "$wrong/others.txt"
