@@ -1,8 +1,8 @@
 # The part `docs`: the names that the documents cite exist, the picture of the crates is that of
 # crates.txt, the rulebook and the counts of what the claims rest on are fresh, a second count gives
-# the same, the examples at the roots of crates are tests, each lemma is cited and each import used,
-# and the pages for players have contents, links that lead somewhere, examples of games and no
-# unwanted words, and their card is fresh.
+# the same and finds each definition that a clause reaches in a chapter, the examples at the roots of
+# crates are tests, each lemma is cited and each import used, and the pages for players have contents,
+# links that lead somewhere, examples of games and no unwanted words, and their card is fresh.
 
 check_docs() {
   take_over tools/names
@@ -55,12 +55,14 @@ docs_must_fail() {
   sees 'a made table with another number' 2 take_over "$wrong/tools/claim" --check
   sed 's/^\(| `run`[^|]*| \)[0-9]*/\10/' docs/developers/claim.md > "$scratch/counts.md"
   sees 'a count that is not the other' 1 take_over tools/recount --counts "$scratch/counts.md"
+  # shellcheck disable=SC2016
   sed '/^| `run`/s/`umpire: run`/&, `rounds: games_end_once`/' docs/developers/proof.md > "$scratch/clauses.md"
   sees 'a clause that the chapters leave out, and three counts without it' 4 take_over tools/recount --clauses "$scratch/clauses.md"
   rm -r "$wrong/docs" && cp -r docs "$wrong"
   sed -i 's/\bNoneHasCode\b/NoneHasIt/' "$wrong/docs/rulebook/36-desk.md"
   sees 'a definition that its chapter leaves out' 1 take_over "$wrong/tools/recount"
   cp docs/rulebook/36-desk.md "$wrong/docs/rulebook"
+  # shellcheck disable=SC2016
   sed -i 's/`desk_state: all_in_order`, //' "$wrong/docs/developers/proof.md"
   sees 'a sentence that is gone, with its chapter, names and counts' 4 take_over "$wrong/tools/claim" --check
   sed 's/^market: /&desk_base /' crates.txt > "$wrong/others.txt"
