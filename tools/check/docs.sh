@@ -1,7 +1,8 @@
 # The part `docs`: the names that the documents cite exist, the picture of the crates is that of
 # crates.txt, the rulebook and the counts of what the claims rest on are fresh, a second count gives
 # the same and finds each definition that a clause reaches in a chapter, the examples at the roots of
-# crates are tests, and each lemma is cited and each import used.
+# crates are tests, each lemma is cited and each import used, and the pages for players have contents,
+# links that lead somewhere, examples of games and no unwanted words, and their card is fresh.
 
 check_docs() {
   take_over tools/names
@@ -11,6 +12,19 @@ check_docs() {
   take_over tools/rulebook/tests.py
   take_over tools/check/examples
   take_over tools/lemmas
+  take_over tools/check/pages
+  take_over tools/card --check
+}
+
+# wrong_pages TOP: looks at pages there in which one thing of each kind is wrong.
+wrong_pages() {
+  cp docs/players/*.md "$1/docs/players/"
+  printf '\nThe line is ruled.\n' >> "$1/docs/players/playing.md"
+  sed -i '/^- \[Stops\](/d' "$1/docs/players/map.md"
+  sed -i 's/(#by-post)/(#by-mail)/' "$1/docs/players/if-you-know-1830.md"
+  sed -i 's/^SOLD DH BOB 105$/SOLD DH BOB 106/' "$1/docs/players/playing.md"
+  yes word | head -n 16000 >> "$1/docs/players/index.md"
+  take_over tools/check/pages "$1"
 }
 
 docs_must_fail() {
@@ -58,5 +72,8 @@ docs_must_fail() {
   mkdir -p "$wrong-crates/sheets/src" "$wrong-crates/test_umpire/src"
   sed 's/collect(rt/collects(rt/' crates/sheets/src/lib.rt > "$wrong-crates/sheets/src/lib.rt"
   cp crates/test_umpire/src/examples.rt "$wrong-crates/test_umpire/src/"
+  sees 'a page with an unwanted word, no contents, a link to nowhere, another report, and too many words' 5 wrong_pages "$wrong"
+  sed 's/ keep the earnings / keep it /' docs/players/formats.md > "$wrong/docs/players/formats.md"
+  sees 'a card that is not made from the tables' 1 take_over "$wrong/tools/card" --check
   sees 'an example that no test has' 1 take_over tools/check/examples "$wrong-crates"
 }

@@ -112,10 +112,21 @@ read_history() {
   count 'the rounds of a history' "${why# }"
 }
 
-# compare_picture FILE: the picture of the documents is the map of a page.
+# compare_picture FILE GAME: the picture of the documents is the map of that game's page, or without a game that of all tiles.
 compare_picture() {
-  "$desk" page < games/presidents-run-their-best.orders 2> "$scratch/err" | tools/map-picture > "$scratch/picture" 2>> "$scratch/err"
-  count "$1" "$(cmp -s "$1" "$scratch/picture" || echo 'it is not the map of the page: tools/map-picture takes it out')"
+  if [ -n "${2:-}" ]; then
+    "$desk" page < "games/$2.orders" 2> "$scratch/err" | tools/map-picture > "$scratch/picture" 2>> "$scratch/err"
+  else
+    "$desk" page --tiles < /dev/null 2> "$scratch/err" | tools/map-picture --tiles > "$scratch/picture" 2>> "$scratch/err"
+  fi
+  count "$1" "$(cmp -s "$1" "$scratch/picture" || echo 'it is not the picture of the page: tools/map-picture takes it out')"
+}
+
+# compare_pictures: a map with runs, the map before a game, and all tiles.
+compare_pictures() {
+  compare_picture docs/page-map.svg presidents-run-their-best
+  compare_picture docs/map.svg file-no-sheets
+  compare_picture docs/tiles.svg
 }
 
 # check_page: with the word quick it reads fewer games.
@@ -131,7 +142,7 @@ check_page() {
   read_tiles
   read_history
   read_last_rounds
-  compare_picture docs/page-map.svg
+  compare_pictures
 }
 
 # read_last_rounds: a page of all rounds up to one has the last 60 of them at most, and its title says how many there were.
@@ -165,7 +176,7 @@ page_must_fail() {
   sees 'a sheet without tiles' 1 read_tiles
   sees 'a history without rounds' 1 read_history
   sees 'a page without the last rounds' 1 read_last_rounds
-  sees 'another picture' 1 compare_picture docs/page-map.svg
+  sees 'other pictures' 3 compare_pictures
   program=$1 desk=$2
   desk=$(desk_but 's/onclick=e/onclick=d/')
   sees 'another script than that of the head' 1 read_lays first-dividend

@@ -1,9 +1,23 @@
 # The part `release`: the packages that ./release makes, and the programs as they are installed from
 # there into an empty root.
 
+# want_pages: installs what makes the pages for players, if it is not there and can be had. Otherwise the packages are tried without
+# them, which is said.
+without_pages=()
+want_pages() {
+  ! { command -v pandoc && command -v weasyprint; } > /dev/null || return 0
+  [ "$(id -u)" != 0 ] || {
+    export DEBIAN_FRONTEND=noninteractive
+    timeout 600 sh -c 'apt-get update && apt-get install -y --no-install-recommends pandoc weasyprint'
+  } > "$scratch/apt" 2>&1
+  ! { command -v pandoc && command -v weasyprint; } > /dev/null || return 0
+  without_pages=(--without-pages)
+  echo 'check: pandoc and weasyprint are not there, and apt cannot install them: the packages are tried without the pages as HTML and PDF'
+}
+
 # make_release FOLDER: makes the packages of the programs that are tried.
 make_release() {
-  ./release "$1" "$program" "$desk" > "$scratch/out" 2> "$scratch/err"
+  ./release "${without_pages[@]}" "$1" "$program" "$desk" > "$scratch/out" 2> "$scratch/err"
   set -- "$1" "$?"
   count "./release $1" "$([ "$2" = 0 ] || echo "its status is $2: $(tail -n 1 "$scratch/err")")"
 }
@@ -59,6 +73,17 @@ has_pages() {
   count 'the licence in the package' "$(grep -q 'No licence is given' "$1/usr/share/doc/umpire/copyright" || echo 'it does not say that none is given')"
 }
 
+# has_html ROOT: each page for players and for programs as HTML, with links that lead somewhere, and all as one PDF.
+has_html() {
+  local documents=$1/usr/share/doc/umpire one pages=(players/card.html) why=
+  for one in docs/players/*.md docs/programs/*.md; do
+    one=${one#docs/} pages+=("${one%.md}.html")
+  done
+  take_over tools/check/html-links "$documents" "${pages[@]}"
+  [ "$(head -c 5 "$documents/players/1830-by-post.pdf" 2> /dev/null)" = '%PDF-' ] || why='it is no PDF'
+  count 'the pages as one PDF' "$why"
+}
+
 # play_from ROOT: the first game and a round by post, from there.
 play_from() {
   local games=$1/usr/share/doc/umpire/games folder=$scratch/our-game name
@@ -80,6 +105,7 @@ play_from() {
 
 check_release() {
   local one=$scratch/dist root=$scratch/root package
+  want_pages
   make_release "$one"
   make_release "$scratch/dist-again"
   same_packages "$one" "$scratch/dist-again"
@@ -88,6 +114,7 @@ check_release() {
   count 'dpkg --verify' "$(dpkg --root="$root" --verify umpire 2>&1)"
   same_files "$root" "$one/umpire-$(version)-x86_64-linux.tar.gz"
   has_pages "$root"
+  ((${#without_pages[@]} > 0)) || has_html "$root"
   play_from "$root"
   dpkg_in "$root" -r umpire || count 'dpkg -r' "$(tail -n 1 "$scratch/dpkg")"
   count 'files after dpkg -r' "$(find "$root/usr" -type f -printf ' %P is left;' 2> /dev/null)"
@@ -98,6 +125,7 @@ release_must_fail() {
   mkdir -p "$wrong/1" "$wrong/2" "$wrong/root/usr"
   sees 'packages that are not there' 4 same_packages "$wrong/1" "$wrong/2"
   sees 'a root without pages' 7 has_pages "$wrong/root"
+  sees 'a root without pages as HTML and PDF' all has_html "$wrong/root"
   sees 'a root without programs' all play_from "$wrong/root"
   printf 'x' > "$wrong/root/usr/x"
   mkdir -p "$wrong/umpire-$(version)-x86_64-linux" && tar -czf "$wrong/x.tar.gz" -C "$wrong" "umpire-$(version)-x86_64-linux"

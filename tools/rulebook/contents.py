@@ -257,7 +257,8 @@ def chapters() -> list[Chapter]:
         other('report', 'The report', 'formats.md', 'The report:',
               files='report/Report report/Statement report/Line report/Column order_grammar/Print events/RuleCodes '
               'map_tables/RuleCodes tables/RuleTexts events/RulingText'),
-        other('certificates', 'Certificates', 'formats.md', 'A certificate',
+        other('certificates', 'Certificates', '../programs/certificates.md', 'What a certificate shows', 'The text of certificates',
+              'How a game is verified',
               files='certificate/Tree certificate/Holding certificate/Digits certificate/Checked certificate/Filled umpire/Groups '
               'umpire/InputSplit umpire/Written operating/TurnCalls operating/Calls rounds/GameCalls rounds/Faults legal_runs/Claim '
               'umpire/Certified'),
