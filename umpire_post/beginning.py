@@ -5,12 +5,11 @@ import secrets
 import shutil
 from collections.abc import Mapping, Sequence
 from dataclasses import dataclass
-from datetime import datetime
 from pathlib import Path
 
 from umpire_post import letters
 from umpire_post.club import Club, Player, club_text, game_text, is_address, read_club
-from umpire_post.deadlines import Rule, Zone, deadline, is_rule
+from umpire_post.deadlines import Rule, Zone, is_rule
 from umpire_post.disk import flush, write
 from umpire_post.errors import FILE_REFUSED, PostError
 from umpire_post.evening import Evening
@@ -83,15 +82,17 @@ def _make(evening: Evening, top: Path, made: Path, wish: Wish) -> list[str]:
     programs = evening.programs_of(club)
     report = programs.report(text)
     if set(report.players) != set(club.players):
-        raise PostError(f"the file has the players {listed(report.players)}, but the addresses are for {listed(club.players)}", FILE_REFUSED)
+        raise PostError(f"the file has the players {listed(report.players)}, but the addresses are for {listed(club.players)}",
+                        FILE_REFUSED)
     write(made / ORDERS, text)
-    until = _until(club, wish.due, evening.now()) if report.awaited else None
+    until = club.until(wish.due, evening.now()) if report.awaited else None
     if until and report.awaited:
         write(made / DUE, due_text(report.awaited, until.isoformat(timespec="minutes")))
     due = club.zone.told(until) if until else ""
     _write_letters(evening, made, club, report, due)
     flush([made, *made.rglob("*")])
-    return [*programs.check(text, 1, report.owed_without()).splitlines(), letters.next_of(report, due), f"The first letters are in {OUTBOX}."]
+    findings = programs.check(text, 1, report.owed_without())
+    return [*findings.splitlines(), letters.next_of(report, due), f"The first letters are in {OUTBOX}."]
 
 
 def _write_letters(evening: Evening, made: Path, club: Club, report: Report, due: str) -> None:
@@ -130,12 +131,6 @@ def _rule(text: str | None) -> str:
     if text:
         Rule.of(text)
     return text or ""
-
-
-def _until(club: Club, asked: str | None, now: datetime) -> datetime | None:
-    if asked:
-        return deadline(asked, now, club.zone)
-    return club.due.next(now, club.zone) if club.due else None
 
 
 def _rules(home: Path) -> list[Attached]:

@@ -10,7 +10,7 @@ from datetime import datetime
 from pathlib import Path
 from typing import Any
 
-from umpire_post.deadlines import UTC, Rule, Zone
+from umpire_post.deadlines import UTC, Rule, Zone, deadline
 from umpire_post.errors import PostError
 
 # An address as a letter's head may have it: no space, no control character, one @.
@@ -72,6 +72,13 @@ class Club:
         """Returns the players who have this address. Upper and lower case are the same."""
         own = address.lower()
         return [it for it in self.players.values() if own in map(str.lower, it.addresses)]
+
+    def until(self, asked: str | None, now: datetime) -> datetime | None:
+        """Returns when the sheets of a round are due that is awaited from now on: as it is asked for, or by
+        the rule of the club, if there is one."""
+        if asked:
+            return deadline(asked, now, self.zone)
+        return self.due.next(now, self.zone) if self.due else None
 
     def spoken(self, text: str, name: str) -> str:
         """Returns a text of the club with the name of a player and of the game in their places."""

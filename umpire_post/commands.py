@@ -61,7 +61,8 @@ GAME, ANY = "the folder of the game", "the folder of the game, or of a club of s
 
 def parser(name: str = "post") -> argparse.ArgumentParser:
     """Returns the command line."""
-    top = _Parser(prog=name, description="Handles the mail of postal games of 1830, from the umpire's inbox to the outbox", epilog=STATUSES)
+    top = _Parser(prog=name, description="Handles the mail of postal games of 1830, from the umpire's inbox to the outbox",
+                  epilog=STATUSES)
     words = top.add_subparsers(dest="word", required=True, metavar="WORD")
 
     def word(called: str, what: str, example: str, folder: str) -> argparse.ArgumentParser:
@@ -75,13 +76,14 @@ def parser(name: str = "post") -> argparse.ArgumentParser:
     _add_new(word)
     _add_in(word)
     one = word("status", "Shows who has sent a sheet, who owes one, and what waits for you", "our-game", ANY)
-    one.add_argument("--check", action="store_true",
-                     help="show what the desk finds with all sheets, and what is bought and sold by force; part of it is for the umpire only")
+    one.add_argument("--check", action="store_true", help="show what the desk finds with all sheets, and what is bought and sold by "
+                                                          "force; part of it is for the umpire only")
     one.add_argument("--remind", action="store_true", help="write a letter to each player who owes a sheet, at most one a day")
     _add_round(word)
     one = word("undo", "Takes the last round back", "our-game OR5.1", GAME)
     one.add_argument("round", metavar="ROUND", nargs="?", type=str.upper, help="take nothing back if the last round is another")
-    one = word("due", "Sets when the sheets of the awaited round are due, and writes it to each player", "our-game '2026-12-06 18:00'", GAME)
+    one = word("due", "Sets when the sheets of the awaited round are due, and writes it to each player",
+               "our-game '2026-12-06 18:00'", GAME)
     one.add_argument("due", metavar="WHEN", help="a date and a time, or a day of the week and a time")
     one = word("send", "Sends the letters of the outbox, as club.toml says", "our-game", ANY)
     said = one.add_mutually_exclusive_group()
@@ -96,14 +98,16 @@ def parser(name: str = "post") -> argparse.ArgumentParser:
 def _add_players(one: argparse.ArgumentParser, whom: str, needs_umpire: bool) -> None:
     one.add_argument("players", metavar="NAME=ADDRESS", nargs="+", help=whom)
     one.add_argument("--umpire", required=needs_umpire, metavar="ADDRESS", help="the address that letters come from")
-    one.add_argument("--zone", metavar="ZONE", help="the time zone of all times, such as Europe/Berlin; that of this machine if none is named")
+    one.add_argument("--zone", metavar="ZONE",
+                     help="the time zone of all times, such as Europe/Berlin; that of this machine if none is named")
     one.add_argument("--due", metavar="WHEN", help="when sheets are due, such as 'Sunday 18:00'")
 
 
 def _add_new(word: _Word) -> None:
     example = "our-game --umpire umpire@example.org ANN=ann@example.org BOB=bob@example.org CYD=cyd@example.org"
     one = word("new", "Makes a game's folder, and writes the first letters", example, GAME)
-    _add_players(one, "a player, in the order of the seats; a name again for another address; the name alone of a player of the club", False)
+    _add_players(one, "a player, in the order of the seats; a name again for another address; "
+                      "the name alone of a player of the club", False)
     one.add_argument("--game-version", type=int, choices=(1, 2), default=2,
                      help="the version of the order file: 2, with conditions, unless 1 is named")
     one.add_argument("--orders", type=Path, metavar="FILE", help="the order file of a game that has begun")
@@ -157,7 +161,10 @@ def main(words: Sequence[str], name: str = "post", now: Callable[[], datetime] =
 
 
 def _file_of(wrong: OSError) -> str:
-    return plain_sentence(os.fsdecode(wrong.filename)) if isinstance(wrong.filename, (str, bytes, Path)) else "a file, standard input or standard output"
+    """Returns the name of the file that an error is about."""
+    if isinstance(wrong.filename, (str, bytes, Path)):
+        return plain_sentence(os.fsdecode(wrong.filename))
+    return "a file, standard input or standard output"
 
 
 def _drop_output() -> None:

@@ -144,17 +144,19 @@ def _is_taken(lock: int) -> bool:
 
 def _put_in_place(done: Path, top: Path) -> None:
     """Moves the files of a step to their places, and removes those that it removes."""
-    changed = {top}
+    changed = set()
     for path in sorted(it for it in (done / FILES).rglob("*") if not it.is_dir()):
         place = top / path.relative_to(done / FILES)
         place.parent.mkdir(parents=True, exist_ok=True)
         os.replace(path, place)
-        changed.update(it for it in place.parents if top in it.parents)
+        changed.add(place.parent)
     listed = done / REMOVED
     for name in listed.read_text(encoding="utf-8").splitlines() if listed.exists() else ():
         _remove(top / name)
         changed.add((top / name).parent)
-    flush(it for it in changed if it.is_dir())
+    # (and the folders above these, in which one may be new)
+    above = {it for folder in changed for it in folder.parents if it == top or top in it.parents}
+    flush(it for it in changed | above if it.is_dir())
 
 
 def _remove(path: Path) -> None:

@@ -27,6 +27,8 @@ class Place:
         """Finds out what a folder is. Fails if there is none."""
         if not path.is_dir():
             raise PostError(f"there is no folder {path}")
+        if not (path / CLUB).is_file():
+            raise PostError(f"{path} is not the folder of a game or a club: it has no {CLUB}")
         top = path.resolve()
         if is_club(top):
             return cls(top, tuple(sorted(it.parent for it in top.glob(f"*/{ORDERS}"))), True)

@@ -21,7 +21,7 @@ from umpire_post.routing import game_of
 from umpire_post.sources import Raw
 
 # What is read before it is written, in one step.
-MOST_MESSAGES, MOST_BYTES = 250, 8 << 20
+MOST_MESSAGES, MOST_BYTES = 500, 8 << 20
 
 
 @dataclass(frozen=True)
@@ -60,8 +60,7 @@ class Intake:
     def reader(self, game: Folder) -> Reader:
         """Returns what reads messages for a game."""
         if game.top not in self.readers:
-            programs = self.evening.programs_of(game.club)
-            self.readers[game.top] = Reader(game, programs, programs.report(game.orders))
+            self.readers[game.top] = Reader(game, self.evening.programs_of(game.club), self.evening.report_of(game))
         return self.readers[game.top]
 
     def read(self, raw: Raw) -> Entry:
@@ -208,7 +207,7 @@ def say_done(evening: Evening, place: Place, numbers: Sequence[int]) -> int:
     for number in numbers:
         step.put(box.in_inbox(number, DEALT_WITH), b"")
     step.commit()
-    evening.tell(f"{counted(len(waiting) - len(set(numbers)), 'message')} left that {'wait' if len(waiting) - len(set(numbers)) != 1 else 'waits'} for you")
+    evening.tell(f"{counted(len(waiting.difference(numbers)), 'message')} left to deal with")
     return 0
 
 

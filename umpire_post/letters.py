@@ -70,9 +70,9 @@ def first_letter_of(club: Club, name: str, player: Player, report: Report, due: 
         "\n".join(seats),
         _of_rules(club, rules),
         wrapped(next_of(report, due), ""),
-        wrapped(f"Answer this letter to send your sheet. Its first line is SHEET {player.name} {report.awaited or 'SR1'}, and your orders "
-                "stand below it. You may send it again as often as you like: the last one counts. Each time you get an answer that says "
-                "what was read and what is wrong with it.", ""),
+        wrapped(f"Answer this letter to send your sheet. Its first line is SHEET {player.name} {report.awaited or 'SR1'}, and your "
+                "orders stand below it. You may send it again as often as you like: the last one counts. Each time you get an answer "
+                "that says what was read and what is wrong with it.", ""),
         wrapped("If you write about another game as well, send each sheet as an answer to a letter of its game.", ""),
     ]
     return _of_umpire(club, name, player, f"{report.awaited or 'end'}: the game begins", [it for it in parts if it], now, attached=rules)
@@ -84,7 +84,8 @@ def round_letter(club: Club, name: str, player: Player, report: Report, bulletin
     played = report.played[-1]
     files = list(attached)
     linked = [f"The {what} is at {link}" for what, link in (("report", club.report_link), ("order file", club.orders_link)) if link]
-    parts = [f"{played} was played.", bulletin.rstrip("\n"), wrapped(next_of(report, due), ""), *own, _of_files(report, player, files), "\n".join(linked)]
+    parts = [f"{played} was played.", bulletin.rstrip("\n"), wrapped(next_of(report, due), ""), *own, _of_files(report, player, files),
+             "\n".join(linked)]
     after = f"{report.awaited} is next" if report.awaited else "the game is over"
     return _of_umpire(club, name, player, f"{played}: played, {after}", [it for it in parts if it], now, attached=files)
 
@@ -92,7 +93,8 @@ def round_letter(club: Club, name: str, player: Player, report: Report, bulletin
 def reminder(club: Club, name: str, player: Player, round_: str, since: str, due: str, before: str, now: datetime) -> Letter:
     """Makes the letter that asks a player for a sheet. It answers the letter that asked first."""
     by = f"It is due {due}." if due else f"It has been awaited since {since}."
-    parts = [wrapped(f"You still owe a sheet for {round_}. {by}", ""), f"Even with nothing to order, send the line SHEET {player.name} {round_}."]
+    parts = [wrapped(f"You still owe a sheet for {round_}. {by}", ""),
+             f"Even with nothing to order, send the line SHEET {player.name} {round_}."]
     return _of_umpire(club, name, player, f"{round_}: you owe a sheet{', due ' if due else ''}{due}", parts, now, answers=[before])
 
 
@@ -140,8 +142,8 @@ def _of_files(report: Report, player: Player, files: Sequence[Attached]) -> str:
     """Says what the attached files are for."""
     said = f"Attached: {listed(it.name for it in files)}."
     if report.awaited:
-        said += (f" The page shows what you and your companies may do in {report.awaited}. If you have the umpire's desk, add your sheet to "
-                 f"the order file, and ask it: desk may {player.name}, desk trial {player.name}, or desk lays and a company.")
+        said += (f" The page shows what you and your companies may do in {report.awaited}. If you have the umpire's desk, add your sheet "
+                 f"to the order file, and ask it, for example: desk may {player.name}, desk trial {player.name}, desk lays PRR.")
     return wrapped(said, "")
 
 

@@ -8,7 +8,6 @@ from pathlib import Path
 
 from umpire_post import letters
 from umpire_post.club import Player
-from umpire_post.deadlines import deadline
 from umpire_post.disk import Step
 from umpire_post.errors import FILE_REFUSED, PostError
 from umpire_post.evening import Evening, counted
@@ -24,18 +23,19 @@ from umpire_post.text import Line
 @dataclass(frozen=True)
 class Played:
     """A round as it would be played: the sheets, the message that each came by, the order file with them,
-    and its report."""
+    and the reports before and after."""
 
     round: str
     sheets: tuple[Sheet, ...]
     came: dict[str, int | None]
     orders: bytes
+    before: Report
     after: Report
 
 
-def report_of(folder: Folder, programs: Programs) -> Report:
+def report_of(evening: Evening, folder: Folder) -> Report:
     """Returns the report of a game. Fails if `club.toml` lacks one of its players."""
-    report = programs.report(folder.orders)
+    report = evening.report_of(folder)
     missing = [it for it in report.players if it not in folder.club.players]
     if missing:
         raise PostError(f"club.toml of {folder.club.game} has no {listed(missing)}, who {'plays' if len(missing) == 1 else 'play'}")
@@ -46,13 +46,13 @@ def play(evening: Evening, folder: Folder, without: Sequence[str], round_: str |
     """Plays the awaited round, and writes its letters. Before that it tells what the desk finds with all
     sheets, and what is bought and sold by force."""
     programs = evening.programs_of(folder.club)
-    report = report_of(folder, programs)
+    report = report_of(evening, folder)
     if report.awaited is None:
         raise PostError("the game is over")
     if round_ not in (None, report.awaited):
         raise PostError(f"{round_} is not the round that comes next: that is {report.awaited}")
     played = _played(folder, programs, report, report.awaited, [it.upper() for it in without])
-    until = _until(evening, folder, played.after, due)
+    until = folder.club.until(due, evening.now()) if played.after.awaited else None
     tell_outlook(evening, programs, folder, played)
     if not goes:
         _look_for_bankrupt(folder, played)
@@ -75,7 +75,7 @@ def tell_outlook(evening: Evening, programs: Programs, folder: Folder, played: P
     """Tells what the desk finds with all sheets that are there, and what is bought and sold by force. Part
     of it is for the umpire alone."""
     here = [it for it in played.sheets if played.came[it.player] is not None]
-    owed = programs.report(folder.orders).owed_without(*((it.player, it.round) for it in here))
+    owed = played.before.owed_without(*((it.player, it.round) for it in here))
     text = programs.check(with_sheets(folder.orders, here), line_count(folder.orders) + 1, owed)
     evening.tell_all(text)
     if ALONE in text:
@@ -122,7 +122,7 @@ def _played(folder: Folder, programs: Programs, report: Report, round_: str, wit
     if after.played != (*report.played, round_):
         raise PostError(f"the umpire does not play {round_} by these sheets: desk check says\n"
                         + programs.check(orders, line_count(folder.orders) + 1), FILE_REFUSED)
-    return Played(round_, tuple(sheets), came, orders, after)
+    return Played(round_, tuple(sheets), came, orders, report, after)
 
 
 def _sheets_of(folder: Folder, report: Report, round_: str, without: Sequence[str]) -> tuple[list[Sheet], dict[str, int | None]]:
@@ -147,16 +147,6 @@ def _look_for_bankrupt(folder: Folder, played: Played) -> None:
     if untold:
         name = untold[0]
         raise PostError(f"{name} goes bankrupt in {played.round}, and no letter has told {name}. Tell {name}, or run round with --go")
-
-
-def _until(evening: Evening, folder: Folder, after: Report, asked: str | None) -> datetime | None:
-    """Returns when the sheets of the next round are due: as it is asked for, or by the rule of the club."""
-    club, now = folder.club, evening.now()
-    if after.awaited is None:
-        return None
-    if asked:
-        return deadline(asked, now, club.zone)
-    return club.due.next(now, club.zone) if club.due else None
 
 
 def _told(folder: Folder, until: datetime | None) -> str:

@@ -1,7 +1,7 @@
 # The part `post`: a game by mail, from the inbox to the outbox.
 
 # The modules of umpire_post/tests, the longest first, and the parts of one.
-post_modules=(test_killed.Rounds test_killed.Steps test_ten_rounds test_six_rounds test_evenings test_clubs test_faults test_deadlines test_page
+post_modules=(test_killed.Rounds test_killed.Steps test_killed.Clubs test_ten_rounds test_six_rounds test_evenings test_clubs test_faults test_deadlines test_page
   test_delivery test_damaged test_threats test_messages)
 # Those of messages from strangers, in parts that run side by side.
 post_modules+=(test_hostile.MadeByChance.test_{first,second,third,fourth} test_hostile.Attacks.test_{first,second,third,fourth} test_hostile.Failing

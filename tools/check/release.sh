@@ -75,7 +75,7 @@ play_from() {
   cp "$folder/rounds/001-PR1/report" "$scratch/out" 2> /dev/null
   judge 'a round by post, from the package' "$(find "$folder/outbox" -name 'round-001-PR1-*.eml' 2> /dev/null | wc -l)" 3 "$game.report" none
   from_there "$1" umpire-post send "$folder" > "$scratch/out"
-  count 'letters of the package' "$([ "$(grep -c ': to ' "$scratch/out")" = 4 ] || echo 'there are not four of them')"
+  count 'letters of the package' "$([ "$(grep -c ': to ' "$scratch/out")" = 7 ] || echo 'there are not seven of them')"
 }
 
 check_release() {

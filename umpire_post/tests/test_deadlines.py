@@ -1,6 +1,7 @@
 """When sheets are due, and where it stands."""
 
 import email
+import os
 import re
 import unittest
 from datetime import datetime, timezone
@@ -8,8 +9,17 @@ from email.policy import default
 
 from umpire_post.deadlines import Rule, Zone, deadline
 from umpire_post.errors import PostError
+from umpire_post.programs import Programs
 from umpire_post.tests.evenings import UMPIRE, THREE, Evenings, mail
 
+# A desk whose word page takes a deadline.
+DESK = """#!/bin/sh
+case "$1 $2" in
+  'page --help') echo '      --due <TEXT>  When the next sheets are due' ;;
+  'page --lays') echo "<html>$*</html>" ;;
+  *) exec '{program}' "$@" ;;
+esac
+"""
 BERLIN = Zone.of("Europe/Berlin")
 ALL = ("--without", "ANN", "BOB", "CYD")
 
@@ -93,6 +103,15 @@ class Deadlines(Evenings):
         self.assertRegex(self.post("status"), rf"PR2 has been awaited since [^,]*, and is due {re.escape(due)}\n")
         self.post("undo")
         self.assertIn("PR1 has been awaited since Monday 2026-11-02 18:01 (UTC)\n", self.post("status"))
+
+    def test_a_page_has_the_deadline_if_the_desk_takes_one(self) -> None:
+        desk = self.place / "desk"
+        desk.write_text(DESK.format(program=os.environ["UMPIRE_DESK"]))
+        desk.chmod(0o755)
+        self.programs = Programs([os.environ["UMPIRE"]], [str(desk)])
+        self.post("round", "--due", "2026-11-07 12:00", *ALL)
+        self.assertEqual("<html>page --lays --due Saturday 2026-11-07 12:00 (UTC)</html>\n",
+                         (self.game / "rounds" / "001-PR1" / "page.html").read_text())
 
     def test_a_deadline_that_is_none_changes_nothing(self) -> None:
         for words in (["due", "Sunday"], ["round", "--due", "Sunday", *ALL], ["due", "2026-11-01 18:00"]):

@@ -258,7 +258,7 @@ class Waiting(Evenings):
         self.assertEqual(2, self.post("status").count("set aside"))
         self.assertIn("2 messages wait for you: see status", self.post("round", "--without", "ANN", "BOB", "CYD"))
         self.assertEqual(2, self.post("status").count("set aside"))
-        self.assertEqual("1 message left that waits for you\n", self.post("in", "--done", "1"))
+        self.assertEqual("1 message left to deal with\n", self.post("in", "--done", "1"))
         self.assertIn("set aside: message 2 from bob@example.org", self.post("status"))
         self.assertIn("message 1 does not wait for you", self.post("in", "--done", "1", status=1))
         self.post("in", "--done", "2")
@@ -301,7 +301,8 @@ class Status(Evenings):
     def test_a_folder_that_is_none(self) -> None:
         self.assertIn("there is no folder", self.post("status", status=1))
         self.game.mkdir()
-        self.assertIn("is not a game's folder: it has no club.toml", self.post("status", status=1))
+        self.assertIn("is not the folder of a game or a club: it has no club.toml", self.post("status", status=1))
+        self.assertEqual([], self.names("."))
 
     def test_a_club_that_is_wrong(self) -> None:
         self.new()

@@ -7,14 +7,13 @@ import os
 import subprocess
 import time
 import unittest
-from collections.abc import Callable
 from email.policy import default
 from pathlib import Path
 
-from umpire_post.disk import Step, Work, locked
+from umpire_post.disk import locked
 from umpire_post.programs import Programs
 from umpire_post.tests.club import HERE
-from umpire_post.tests.evenings import THREE, UMPIRE, Evenings, mail, mbox, tree
+from umpire_post.tests.evenings import THREE, UMPIRE, Evenings, mail, tree
 
 POST = HERE.parents[1] / "post"
 EMPTY = [[f"SHEET {it} PR1"] for it in ("ANN", "BOB", "CYD")]

@@ -168,6 +168,26 @@ class Steps(Killed):
         self.look_at(["status", str(self.game), "--remind"])
 
 
+class Clubs(Killed):
+    """A club with two games, in which ANN plays."""
+
+    def club(self) -> list[str]:
+        """Returns the words that make the club."""
+        return ["club", str(self.game), "--umpire", UMPIRE, *THREE, "DOT=dot@example.org"]
+
+    def test_club(self) -> None:
+        self.look_at(self.club())
+
+    def test_in(self) -> None:
+        run(self.club())
+        run(["new", str(self.game / "alpha"), "ANN", "BOB", "CYD"])
+        run(["new", str(self.game / "beta"), "ANN", "CYD", "DOT"])
+        path = self.place / "mbox"
+        path.write_bytes(mbox([mail(it, [f"SHEET {it} PR1"], at) for at, it in enumerate(("ANN", "BOB", "DOT"))]))
+        self.look_at(["in", str(self.game), str(path)])
+        self.assertEqual([2, 2, 2], [len(self.names(it)) for it in ("inbox", "alpha/inbox", "beta/inbox")])
+
+
 class Rounds(Killed):
     def test_round(self) -> None:
         self.begun()
