@@ -60,8 +60,7 @@ class Intake:
     def reader(self, game: Folder) -> Reader:
         """Returns what reads messages for a game."""
         if game.top not in self.readers:
-            programs = self.evening.programs_of(game.club)
-            self.readers[game.top] = Reader(game, programs, programs.report(game.orders))
+            self.readers[game.top] = Reader(game, self.evening.programs_of(game.club), self.evening.report_of(game))
         return self.readers[game.top]
 
     def read(self, raw: Raw) -> Entry:

@@ -19,7 +19,7 @@ def status(evening: Evening, place: Place, finds: bool, reminds: bool) -> None:
     games, shared = place.games(), place.shared()
     for folder in games:
         whose = f"{folder.club.game} " if place.is_club else ""
-        report = report_of(folder, evening.programs_of(folder.club))
+        report = report_of(evening, folder)
         if report.awaited is None:
             evening.tell(f"{folder.club.game}: the game is over.")
         else:
@@ -37,7 +37,7 @@ def status(evening: Evening, place: Place, finds: bool, reminds: bool) -> None:
 
 def set_due(evening: Evening, folder: Folder, text: str) -> None:
     """Sets when the sheets of the awaited round are due, and tells the players."""
-    report = report_of(folder, evening.programs_of(folder.club))
+    report = report_of(evening, folder)
     if report.awaited is None:
         raise PostError("the game is over")
     club, now = folder.club, evening.now()

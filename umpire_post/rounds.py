@@ -23,18 +23,19 @@ from umpire_post.text import Line
 @dataclass(frozen=True)
 class Played:
     """A round as it would be played: the sheets, the message that each came by, the order file with them,
-    and its report."""
+    and the reports before and after."""
 
     round: str
     sheets: tuple[Sheet, ...]
     came: dict[str, int | None]
     orders: bytes
+    before: Report
     after: Report
 
 
-def report_of(folder: Folder, programs: Programs) -> Report:
+def report_of(evening: Evening, folder: Folder) -> Report:
     """Returns the report of a game. Fails if `club.toml` lacks one of its players."""
-    report = programs.report(folder.orders)
+    report = evening.report_of(folder)
     missing = [it for it in report.players if it not in folder.club.players]
     if missing:
         raise PostError(f"club.toml of {folder.club.game} has no {listed(missing)}, who {'plays' if len(missing) == 1 else 'play'}")
@@ -45,7 +46,7 @@ def play(evening: Evening, folder: Folder, without: Sequence[str], round_: str |
     """Plays the awaited round, and writes its letters. Before that it tells what the desk finds with all
     sheets, and what is bought and sold by force."""
     programs = evening.programs_of(folder.club)
-    report = report_of(folder, programs)
+    report = report_of(evening, folder)
     if report.awaited is None:
         raise PostError("the game is over")
     if round_ not in (None, report.awaited):
@@ -74,7 +75,7 @@ def tell_outlook(evening: Evening, programs: Programs, folder: Folder, played: P
     """Tells what the desk finds with all sheets that are there, and what is bought and sold by force. Part
     of it is for the umpire alone."""
     here = [it for it in played.sheets if played.came[it.player] is not None]
-    owed = programs.report(folder.orders).owed_without(*((it.player, it.round) for it in here))
+    owed = played.before.owed_without(*((it.player, it.round) for it in here))
     text = programs.check(with_sheets(folder.orders, here), line_count(folder.orders) + 1, owed)
     evening.tell_all(text)
     if ALONE in text:
@@ -121,7 +122,7 @@ def _played(folder: Folder, programs: Programs, report: Report, round_: str, wit
     if after.played != (*report.played, round_):
         raise PostError(f"the umpire does not play {round_} by these sheets: desk check says\n"
                         + programs.check(orders, line_count(folder.orders) + 1), FILE_REFUSED)
-    return Played(round_, tuple(sheets), came, orders, after)
+    return Played(round_, tuple(sheets), came, orders, report, after)
 
 
 def _sheets_of(folder: Folder, report: Report, round_: str, without: Sequence[str]) -> tuple[list[Sheet], dict[str, int | None]]:

@@ -189,6 +189,11 @@ class Commands(TwoGames):
         self.assertEqual(7, gone.read_text().count("\nSubject: "))
         self.assertEqual([[], [], []], [self.names(it) for it in ("alpha/outbox", "beta/outbox", "outbox")])
 
+    def test_a_file_that_is_refused_is_that_of_a_game(self) -> None:
+        (self.club / "beta" / "game.orders").write_text("GAME 1831 1\n")
+        self.assertIn("post: beta: FILE REFUSED F1", self.comes(mail("DOT", ["SHEET DOT PR1"], 1), status=2))
+        self.assertEqual(["alpha 0001 bob@example.org: BOB PR1"], self.told(mail("BOB", ["SHEET BOB PR1"], 2)))
+
     def test_a_step_of_one_game_is_finished_by_a_command_on_the_other(self) -> None:
         work = self.club / ".step-undo,alpha,PR1"
         (work / "files" / "alpha").mkdir(parents=True)
