@@ -7,10 +7,11 @@ import unittest
 from pathlib import Path
 from unittest import mock
 
-from umpire_post.disk import locked
+from umpire_post.disk import Step, locked
 from umpire_post.sources import KEPT_OF_LARGE, MAX_BYTES
 from umpire_post.tests.club import HERE
 from umpire_post.tests.evenings import THREE, UMPIRE, Evenings, mail, mbox, tree
+from umpire_post.tests.programs import PROGRAMS
 
 EMPTY = [[f"SHEET {it} PR1"] for it in ("ANN", "BOB", "CYD")]
 
@@ -67,6 +68,13 @@ class In(Evenings):
         told = self.comes(*messages, mail("CYD", EMPTY[2], 3))
         self.assertEqual(["0003 cyd@example.org: CYD PR1", "2 read before"], told.splitlines())
         self.assertEqual(["0001-answer.eml", "0002-answer.eml", "0003-answer.eml"], self.names("outbox"))
+
+    def test_many_messages_are_one_step_and_one_report(self) -> None:
+        with mock.patch.object(Step, "commit", autospec=True, side_effect=Step.commit) as commit, \
+                mock.patch.object(PROGRAMS, "report", side_effect=PROGRAMS.report) as report:
+            self.comes(*(mail("ANN", EMPTY[0], at) for at in range(60)))
+        self.assertEqual((1, 1), (commit.call_count, report.call_count))
+        self.assertEqual(60, len(self.names("outbox")))
 
     def test_what_a_mail_program_writes_into_an_mbox_makes_no_other_message(self) -> None:
         content = mail("ANN", EMPTY[0], 1)

@@ -7,6 +7,7 @@ import io
 import os
 import secrets
 import shutil
+import time
 from collections.abc import Callable, Sequence
 from datetime import datetime, timezone
 from pathlib import Path
@@ -205,6 +206,9 @@ class Rounds(Killed):
     def test_send(self) -> None:
         """No letter is lost or sent twice: if nobody knows whether it was, the umpire is told."""
         self.begun()
+        for path in (self.game / "outbox").iterdir():
+            path.unlink()
+        self.enterContext(mock.patch.object(time, "sleep", lambda _: None))
         run(["round", str(self.game), "--without", "ANN", "BOB", "CYD"])
         gone = self.place / "gone"
         sendmail = self.place / "sendmail"
