@@ -137,7 +137,7 @@ try_every_word() {
 # play_session FOLDER: a game of which each round was sent first as in ROUND.sent and then mended as in ROUND.sheets. Before the round
 # is played, `check` tells of what was sent as ROUND.told has it, and of the mended sheets nothing. No line is refused in the end.
 play_session() {
-  local so_far=$scratch/so-far from name sheets
+  local so_far=$scratch/so-far from name sheets owed status
   : > "$so_far"
   for sheets in "$1"/*.sheets; do
     name=${sheets%.sheets} from=$(($(wc -l < "$so_far") + 1))
@@ -147,7 +147,9 @@ play_session() {
     fi
     cat "$sheets" >> "$so_far"
     "$desk" check --from "$from" < "$so_far" > "$scratch/out" 2> "$scratch/err"
-    judge "$name as it was mended" $? 0 /dev/null none
+    status=$? owed=/dev/null
+    [ ! -f "$name.mended" ] || owed=$name.mended
+    judge "$name as it was mended" "$status" "$([ "$owed" = /dev/null ] && echo 0 || echo 3)" "$owed" none
   done
   "$program" report < "$so_far" > "$scratch/report"
   count "the report of $1" "$(grep -E ' REFUSED |^(UNREAD|LEFT|FILE) ' "$scratch/report" | head -n 1)"

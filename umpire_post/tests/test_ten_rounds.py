@@ -98,13 +98,13 @@ class TenRounds(Clubs):
 
     def look_at_slips(self, sent: Path, answers: dict[str, str], before: int) -> None:
         """Each finding of the session is in the answer to the player of its sheet, and in no other of a line of this text."""
-        told = [it.split(" | ") for it in sent.with_suffix(".told").read_text().splitlines() if not it.startswith("OWED")]
+        own = sent.with_suffix(".told").read_text().partition("FOR THE UMPIRE ALONE")[0]
+        told = [it.split(" | ") for it in own.splitlines() if not it.startswith("OWED")]
         whose = {before + 1 + start + at: name for name, lines, start in chunks(sent) for at in range(len(lines))}
         for number, *_, text, said in told:
             if int(number) in PUT_RIGHT.get(sent.stem, ()):
                 continue
-            # (in the session all sheets are there, and in an answer the others are still awaited)
-            said = TOLD_OTHERWISE.get((sent.stem, int(number)), said.replace("tried alone: ", "as things stand: "))
+            said = TOLD_OTHERWISE.get((sent.stem, int(number)), said)
             name = whose[int(number)]
             self.assertIn(flat(said), flat(answers[ADDRESSES[name]]), f"{sent.stem} line {number}")
             others = [flat(it) for address, it in answers.items() if address != ADDRESSES[name]]

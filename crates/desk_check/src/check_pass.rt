@@ -136,7 +136,11 @@ impl<'a> Pass<'a> {
         self.end_closing()?;
         self.open = None;
         let fault = unread_fault(sheets.version(), line.text);
-        let sent = sheet_meant(*self.meant.allocator(), sheets, &line, fault)?;
+        let sent = if self.found.lists(line.number) {
+            sheet_meant(*self.meant.allocator(), sheets, &line, fault)?
+        } else {
+            None
+        };
         if let Some(sent) = sent {
             self.meant.push(Head {
                 line,

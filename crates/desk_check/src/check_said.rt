@@ -2,8 +2,9 @@
 
 use crate::check_text::push_rule;
 use desk_base::Piece::{Bytes, Count, Words};
-use desk_base::{Objection, Piece, fill, push_objection, who};
-use desk_trials::{Finding, Said};
+use desk_base::{Objection, Piece, Reason, fill, push_objection, who};
+use desk_trials::{Finding, Matter, Said};
+use desk_why::{push_case, push_place_meant};
 use hints::{Faulty, push_hint, sentence_of};
 use order_grammar::Fault;
 use report::name;
@@ -48,6 +49,9 @@ pub(crate) fn push_fault<'a>(
             players: names.get(..sheets.seats()).unwrap_or(&names),
         };
         push_hint(&mut words, faulty)?;
+        if let (Fault::OutOfPlace, Matter::Line(sent, _)) = (fault, finding.matter) {
+            push_place_meant(&mut words, sent.round, finding.text)?;
+        }
         last_fault.is_repeated = is_equal && last_fault.words.as_slice() == words.as_slice();
         last_fault.line = finding.text;
         last_fault.fault = Some(fault);
@@ -114,8 +118,9 @@ pub(crate) fn push_said<'a>(
             fill(out, "; there is no % line above it", &[Words(head)])
         }
         Said::Breaks(rule, reason) => {
-            push_rule(out, rule.code())?;
-            push_objection(out, sheets, reason)?;
+            let mut detail = Vec::new(*out.allocator());
+            push_objection(&mut detail, sheets, reason)?;
+            push_case(out, Reason::Order(rule), detail.as_slice())?;
             match reason {
                 Objection::NoTrain(..) => fill(out, " as the round begins", &[]),
                 _ => Ok(()),

@@ -1,11 +1,12 @@
 //! What `check` finds, as text: a line for each finding, with the number of the line in the file,
 //! its text, and what there is to say of it.
+ghost use Rattle.std.specs.Prelude.{◌≡◌, OnOk};
 
 use crate::check_refused::{Cause, Refusal};
 use crate::check_said::{LastFault, push_closing, push_fault, push_said};
 use desk_base::Piece::{Bytes, Count, Cut, Words};
 use desk_base::{Piece, explain, push};
-use desk_trials::{Change, Finding, Found, Lateness, Matter, Standing};
+use desk_trials::{Change, Fallback, Finding, Found, Lateness, Matter, Standing};
 use report::name;
 use rounds::End;
 use sheets::{FileFault, Sheets};
@@ -39,11 +40,43 @@ pub(crate) fn push_found(
             push_finding(out, sheets, finding, found.told.as_slice(), &mut last_fault)?;
         }
     }
-    push_unlisted(out, found.unlisted)
+    push_unlisted(out, found.unlisted)?;
+    push_fallbacks(out, sheets, found.fallbacks.as_slice())
+}
+
+/// Adds the lines that are not needed, a line of text for each sheet.
+fn push_fallbacks(
+    out: &mut Vec<u8>,
+    sheets: &Sheets,
+    fallbacks: &[Fallback],
+) -> Result<(), AllocError> {
+    let mut before = None;
+    for (place, fallback) in fallbacks.iter().enumerate() {
+        let sent = Some(fallback.sent);
+        let next = fallbacks.get(place.saturating_add(1)).map(|next| next.sent);
+        if before == sent {
+            push(out, &[Words(", ")])?;
+        } else {
+            let name = Bytes(name(sheets, fallback.sent.seat));
+            let round = Piece::Round(fallback.sent.round);
+            let words = if next == sent {
+                "fallbacks that are not needed as things stand: lines "
+            } else {
+                "a fallback that is not needed as things stand: line "
+            };
+            push(out, &[name, Words(" "), round, PARTED, Words(words)])?;
+        }
+        let end = if next == sent { "" } else { "\n" };
+        push(out, &[Count(fallback.line), Words(end)])?;
+        before = sent;
+    }
+    Ok(())
 }
 
 /// Adds how many findings of lines are not listed, if any.
-fn push_unlisted(out: &mut Vec<u8>, unlisted: usize) -> Result<(), AllocError> {
+fn push_unlisted(out: &mut Vec<u8>, unlisted: usize) -> Result<(), AllocError>
+    ensures { unlisted ≡ 0 → OnOk result (out.new ≡ out.old) }
+{
     let findings = match unlisted {
         0 => return Ok(()),
         1 => " finding",

@@ -1,4 +1,7 @@
 -- What the trials of a file refuse, and what is found in it.
+pub mod Changed
+pub mod Consent
+pub mod Facts
 pub mod FileLines
 pub mod Found
 pub mod Heads
@@ -8,4 +11,5 @@ pub mod Refusals
 pub mod SheetFaults
 pub mod SheetLike
 pub mod SheetLines
+pub mod Taken
 pub mod Trials

@@ -1,5 +1,5 @@
 -- What a trial of sheets plays, and which lines of a sheet it refuses.
-use Rattle.std.specs.Prelude.{◌≡◌, ℕ, Bool, ◌&&◌, ◌||◌, nat_le, if◌then◌else◌, List, [], ◌∷◌, length}
+use Rattle.std.specs.Prelude.{◌≡◌, ℕ, Bool, ◌&&◌, ◌||◌, nat_le, if◌then◌else◌, List, [], ◌∷◌, Option, Some, None, length}
 use Rattle.std.specs.List.{flat_map}
 use Rattle.desk_trials.specs.Heads.{came}
 use Rattle.desk_trials.specs.Refusals.{refused_of}
@@ -26,6 +26,11 @@ head_if heads round from head = if is_for heads round from head then head ∷ []
 -- the heads that do
 abbrev pub sheets_for : Heads → Round → ℕ → List Head
 sheets_for heads round from = flat_map (head_if heads round from) heads.heads.items
+
+-- those of the round that is tried as if it were to come, if there is one
+abbrev pub awaited_of : Heads → Option Round → List Head
+awaited_of heads None = []
+awaited_of heads (Some round) = sheets_for heads round 0
 
 -- the file has no room for one sheet more
 abbrev pub has_no_room : List ℕ → Heads → Bool

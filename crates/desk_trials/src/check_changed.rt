@@ -1,4 +1,6 @@
 //! From which round on the report of a game differs from that of an earlier game.
+ghost use Rattle.std.specs.Prelude.{◌≡◌};
+ghost use Rattle.desk_trials.specs.Changed.{is_said};
 
 use history::{Event, PackedRuling, Ruling, Verdict};
 use order_grammar::print_conditional;
@@ -38,7 +40,9 @@ pub fn first_changed(
 }
 
 /// Returns whether an event is compared.
-fn is_said(event: &Event) -> bool {
+fn is_said(event: &Event) -> bool
+    ensures { result ≡ is_said event.now }
+{
     matches!(
         event,
         Event::Round(_) | Event::Ruled { .. } | Event::Left { .. }

@@ -1,10 +1,11 @@
-//! The offer of another player that an order lacks and with which it would be obeyed.
+//! The offer of a private by another player that an order lacks and with which it would be obeyed.
+ghost use Rattle.std.specs.Prelude.{◌≡◌};
+ghost use Rattle.desk_trials.specs.Consent.{consent_of};
 
 use desk_base::Piece::{Bytes, Words};
 use desk_base::{fill, push};
-use history::{GameView, Holder, Party, PrivateRule, Refusal, TrainRule};
-use order_grammar::{Offer, Order, PlayOrder, TrainSource, print_play_order};
-use purchases::has_train;
+use history::{GameView, Holder, Party, PrivateRule, Refusal};
+use order_grammar::{Offer, Order, PlayOrder, print_play_order};
 use report::name;
 use sheets::Sheets;
 use std::alloc::AllocError;
@@ -51,23 +52,6 @@ fn consent_lacking(
 ) -> Option<Consent> {
     match (rule, order) {
         (
-            Refusal::Train(TrainRule::NoConsent),
-            Order::Play(
-                PlayOrder::BuyTrain {
-                    kind,
-                    from: TrainSource::Company { seller, price },
-                },
-            ),
-        ) if *price > 0 && has_train(view, *seller, *kind) && *seller != company => {
-            let offer = Offer::Train {
-                kind: *kind,
-                seller: *seller,
-                buyer: company,
-                price: *price,
-            };
-            consent_of(view.president(*seller)?, seat, offer)
-        }
-        (
             Refusal::Private(PrivateRule::NoConsent),
             Order::Play(PlayOrder::BuyOwnedPrivate { private, price }),
         ) if *private != Private::BaltimoreOhio && has_cash(view, company, *price) => {
@@ -91,7 +75,9 @@ fn has_cash(view: &GameView, company: Company, price: Amount) -> bool {
 }
 
 /// Returns the offer of the player of a seat to another; `None` if they are the same.
-fn consent_of(giver: Seat, taker: Seat, offer: Offer) -> Option<Consent> {
+fn consent_of(giver: Seat, taker: Seat, offer: Offer) -> Option<Consent>
+    ensures { result ≡ consent_of giver taker offer }
+{
     if giver == taker {
         return None;
     }

@@ -1,5 +1,9 @@
 //! The train that a company must buy because its own orders leave it without one: what it is, who
 //! pays for it, what is sold for it, and whether its president is bankrupt.
+ghost use Rattle.std.specs.Prelude.{◌≡◌, if◌then◌else◌, None, Some};
+ghost use Rattle.desk_trials.specs.Facts.{buyer_then, fact_of};
+ghost use Rattle.purchases.specs.Discard.{is_president};
+ghost use Rattle.totals.specs.Shares.{president_of};
 
 use desk_base::Piece::{Bytes, Number, Words};
 use desk_base::{fill, view_behind};
@@ -10,6 +14,9 @@ use rounds::Game;
 use sheets::{SheetKey, Sheets};
 use std::alloc::{AllocError, Global};
 use tables::{Amount, Company, Kind, Money, Seat, train};
+
+/// The numbers of shares that a sale may have, as words: the pool has at most five of a company.
+static NUMBERS: [&str; 6] = ["no", "one", "two", "three", "four", "five"];
 
 /// What happens when a company must buy a train.
 #[derive(Clone, Copy, PartialEq, Eq)]
@@ -29,6 +36,14 @@ pub(crate) enum ForcedFact {
     Presides(Company, Seat),
     /// The president is bankrupt.
     Bankrupt(Seat),
+    /// A RAISE of so many shares of a company would bring the president more than as many single
+    /// sales, in dollars.
+    Raises {
+        company: Company,
+        shares: u8,
+        brings: Money,
+        singly: Money,
+    },
 }
 
 /// A company that must buy a train, and something that happens as it does.
@@ -67,7 +82,9 @@ pub(crate) fn forced_of(
                 events.get(place..).unwrap_or(&[]),
             )?;
         } else if let Some(company) = buyer {
-            push_fact(&mut forced, company, event)?;
+            if let Some(fact) = fact_of(event) {
+                forced.push(Forced { company, fact })?;
+            }
             buyer = buyer_then(company, event);
         }
     }
@@ -75,7 +92,10 @@ pub(crate) fn forced_of(
 }
 
 /// Returns a company that must buy a train; `None` if a seat does not preside over it.
-fn buyer_of(view: &GameView, company: Company, seat: Seat) -> Option<Company> {
+fn buyer_of(view: &GameView, company: Company, seat: Seat) -> Option<Company>
+    ensures { result ≡ (if is_president (president_of view.now.events company) seat
+        then Some company else None) }
+{
     if view.president(company) == Some(seat) {
         Some(company)
     } else {
@@ -84,7 +104,9 @@ fn buyer_of(view: &GameView, company: Company, seat: Seat) -> Option<Company> {
 }
 
 /// Returns the company that must still buy a train after one more event.
-fn buyer_then(company: Company, event: &Event) -> Option<Company> {
+fn buyer_then(company: Company, event: &Event) -> Option<Company>
+    ensures { result ≡ buyer_then company event.now }
+{
     match event {
         Event::Train { .. } | Event::Bankrupt(_) | Event::Round(_) => None,
         _ => Some(company),
@@ -129,17 +151,10 @@ fn aid_to(events: &[Event], buyer: Company) -> Option<ForcedFact> {
     None
 }
 
-/// Adds what an event does while a company must buy a train, if that is reported.
-fn push_fact(forced: &mut Vec<Forced>, company: Company, event: &Event) -> Result<(), AllocError> {
-    let Some(fact) = fact_of(event) else {
-        return Ok(());
-    };
-    forced.push(Forced { company, fact })?;
-    Ok(())
-}
-
 /// Returns what an event does while a company must buy a train; `None` if that is not reported.
-fn fact_of(event: &Event) -> Option<ForcedFact> {
+fn fact_of(event: &Event) -> Option<ForcedFact>
+    ensures { result ≡ fact_of event.now }
+{
     match event {
         Event::Sells {
             company,
@@ -197,5 +212,25 @@ pub(crate) fn push_forced(
             fill(out, "the presidency of % passes to %", &pieces)
         }
         ForcedFact::Bankrupt(seat) => fill(out, "% IS BANKRUPT", &[Bytes(name(sheets, seat))]),
+        ForcedFact::Raises {
+            company,
+            shares,
+            brings,
+            singly,
+        } => {
+            let count = NUMBERS.get(usize::from(shares)).copied();
+            let pieces = [
+                Words(company.code()),
+                Number(Money::from(shares)),
+                Number(brings),
+                Words(count.unwrap_or("as many")),
+                Number(singly),
+            ];
+            fill(
+                out,
+                "RAISE % % brings %; without it % single sales bring %",
+                &pieces,
+            )
+        }
     }
 }

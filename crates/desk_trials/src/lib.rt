@@ -12,8 +12,9 @@
 //! `sheet_like` (lines that were meant as SHEET lines), `check_sheets` (the SHEET lines),
 //! `check_found` (what is found), `check_changed` (from which round on two games differ);
 //! `numbered` (the lines of a sheet), `refusals` (the lines that a trial refuses), `forced` (trains
-//! that companies must buy), `outcome` (what the last round refused), `consent` and `taken` (what
-//! other players have to do with it), `told` (the findings of a trial), `trials` (`try_sheets`).
+//! that companies must buy), `remedy` (how to pay for them), `outcome` (what the last round
+//! refused), `consent` and `taken` (what other players have to do with it), `told` (the findings of
+//! a trial), `trials` (`try_sheets`).
 #![tactic(auto)]
 
 mod check_changed;
@@ -26,13 +27,14 @@ mod forced;
 mod numbered;
 mod outcome;
 mod refusals;
+mod remedy;
 mod sheet_like;
 mod taken;
 mod told;
 mod trials;
 
 pub use check_changed::first_changed;
-pub use check_found::{Change, Finding, Found, Lateness, Matter, Said, Standing};
+pub use check_found::{Change, Fallback, Finding, Found, Lateness, Matter, Said, Standing};
 pub use check_lines::{FileLine, FileLines};
 pub use check_mail::is_mail;
 pub use check_sheets::{Beginning, Head, Heads, begun_by};

@@ -47,9 +47,20 @@ impl Outcome {
         Ok(Outcome { refused, forced })
     }
 
-    /// Returns whether this happened in the round, too, when a company had to buy a train.
-    pub(crate) fn has(&self, forced: Forced) -> bool {
-        self.forced.iter().any(|fact| *fact == forced)
+    /// Returns what happened both in a trial and in the round when companies had to buy trains.
+    /// Fails only if allocation fails.
+    pub(crate) fn also_forced(
+        &self,
+        alloc: Global,
+        forced: &[Forced],
+    ) -> Result<Vec<Forced>, AllocError> {
+        let mut both = Vec::new(alloc);
+        for one in forced {
+            if self.forced.iter().any(|fact| *fact == *one) {
+                both.push(*one)?;
+            }
+        }
+        Ok(both)
     }
 
     /// Returns the lines of the sheet of a seat that both a trial and the round refused for the
@@ -94,8 +105,8 @@ pub(crate) fn push_lines(
     Ok(())
 }
 
-/// Returns those of some lines of the sheet of a seat that are not among others. Fails only if
-/// allocation fails.
+/// Returns those of some lines of the sheet of a seat that have no fault and are not among others.
+/// (A fault is told by the line itself, whatever is played.) Fails only if allocation fails.
 pub(crate) fn rows_beyond(
     alloc: Global,
     lines: &[SeatLine],
@@ -104,7 +115,8 @@ pub(crate) fn rows_beyond(
 ) -> Result<Vec<RefusedLine>, AllocError> {
     let mut beyond = Vec::new(alloc);
     for row in rows {
-        if !lines.iter().any(|line| is_line(line, seat, row.number)) {
+        let has_fault = matches!(row.verdict, Verdict::Faulty(_));
+        if !has_fault && !lines.iter().any(|line| is_line(line, seat, row.number)) {
             beyond.push(*row)?;
         }
     }

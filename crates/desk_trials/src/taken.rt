@@ -1,4 +1,6 @@
 //! Who took the last tile, train, share or private before an order that wanted it.
+ghost use Rattle.std.specs.Prelude.{◌≡◌};
+ghost use Rattle.desk_trials.specs.Taken.{is_seller, leaves_none, wants_the_last, whose_then};
 
 use desk_base::Piece::Bytes;
 use desk_base::fill;
@@ -48,7 +50,9 @@ fn taker_of(events: &[Event], order: &Order, rule: Refusal) -> Option<Seat> {
 }
 
 /// Returns whether an order breaks a rule because none is left of what it wants.
-fn wants_the_last(rule: Refusal) -> bool {
+fn wants_the_last(rule: Refusal) -> bool
+    ensures { result ≡ wants_the_last rule }
+{
     matches!(
         rule,
         Refusal::Lay(LayRule::NoneLeft)
@@ -72,7 +76,9 @@ fn events_of_round(events: &[Event]) -> &[Event] {
 
 /// Returns whether an event removes from play all trains of the kind that an order wants, so that
 /// nobody took the last.
-fn leaves_none(event: &Event, order: &Order) -> bool {
+fn leaves_none(event: &Event, order: &Order) -> bool
+    ensures { result ≡ leaves_none event.now order.now }
+{
     match (event, order) {
         (Event::Rusted { kind, .. }, Order::Play(PlayOrder::BuyTrain { kind: wanted, .. })) => kind
             == wanted,
@@ -82,7 +88,9 @@ fn leaves_none(event: &Event, order: &Order) -> bool {
 
 /// Returns whose sheet the next events follow, after one more event: the sheet of the line that was
 /// ruled last, or of the player who acts. A forced purchase follows no sheet.
-fn whose_then(whose: Option<Seat>, event: &Event) -> Option<Seat> {
+fn whose_then(whose: Option<Seat>, event: &Event) -> Option<Seat>
+    ensures { result ≡ whose_then whose event.now }
+{
     match event {
         Event::Round(_) | Event::Forced(_) => None,
         Event::Ruled { seat, .. }
@@ -148,7 +156,9 @@ fn takes(event: &Event, order: &Order, rule: Refusal) -> bool {
 }
 
 /// Returns whether a train is bought from where an order wanted one.
-fn is_seller(source: TrainSource, seller: TrainSeller) -> bool {
+fn is_seller(source: TrainSource, seller: TrainSeller) -> bool
+    ensures { result ≡ is_seller source seller }
+{
     match (source, seller) {
         (TrainSource::Bank | TrainSource::Trade(_), TrainSeller::Bank) => true,
         (TrainSource::BankPool, TrainSeller::BankPool) => true,

@@ -1,7 +1,7 @@
 //! Adds the findings of a trial: the lines that it did not obey, each with the rule, its figures
 //! and its cause, and what happens when companies must buy trains.
 
-use crate::check_found::{CodedLine, Found, Matter};
+use crate::check_found::{CodedLine, Fallback, Found, Matter};
 use crate::check_lines::FileLine;
 use crate::check_mail::is_mail;
 use crate::check_sheets::Head;
@@ -12,11 +12,12 @@ use crate::refusals::RefusedLine;
 use crate::taken::push_taker;
 use desk_base::Piece::Words;
 use desk_base::{push, view_behind};
-use desk_why::{Ruled, SheetLine, find_line, lines_of, push_rule};
+use desk_why::{Ruled, SheetLine, find_line, is_fallback, lines_of, push_rule};
 use history::{Event, GameView, PackedRuling, Ruling, Verdict, Walk};
 use rounds::Game;
 use sheets::SheetKey;
 use std::alloc::{AllocError, Global};
+use tables::Seat;
 
 /// Which trial it is.
 #[derive(Clone, Copy)]
@@ -52,7 +53,8 @@ pub(crate) struct TriedSheet<'g, 'h, 'n, 'a> {
 }
 
 /// Adds the lines of a sheet that a trial did not obey, unless the line has a finding with the same
-/// code already.
+/// code already. Lines that are not needed because an earlier line for the same purpose is obeyed
+/// are no findings: they are listed apart if the sheet is tried alone, and otherwise left out.
 pub(crate) fn tell_refused<'a>(
     alloc: Global,
     played: TriedSheet<'_, '_, '_, 'a>,
@@ -71,9 +73,72 @@ pub(crate) fn tell_refused<'a>(
             continue;
         }
         let view = view_behind(&mut walk, row.place, game.history().seats());
-        tell_row(alloc, played, lines.as_slice(), &view, row, &line, found)?;
+        if !is_unneeded(lines.as_slice(), &view, played.head.sent.seat, row, rows) {
+            tell_row(alloc, played, lines.as_slice(), &view, row, &line, found)?;
+        } else if let Trial::Alone = played.trial {
+            found.fallbacks.push(Fallback {
+                sent: played.head.sent,
+                line: line.number,
+            })?;
+        }
     }
     Ok(())
+}
+
+/// Adds a finding of a line of a sheet: the part of the trials' texts from a place on.
+fn add_told<'a>(
+    played: TriedSheet<'_, '_, '_, 'a>,
+    line: &FileLine<'a>,
+    from: usize,
+    costs: bool,
+    found: &mut Found<'a>,
+) -> Result<(), AllocError> {
+    let matter = Matter::Tried {
+        sent: played.head.sent,
+        from,
+        to: found.told.len(),
+        costs,
+    };
+    if costs {
+        found.add(line, matter)
+    } else {
+        found.add_line(line, matter)
+    }
+}
+
+/// Returns whether a line of the sheet of a seat was refused only because an earlier line for the
+/// same purpose was obeyed, given all that were not obeyed. Below a line with a fault in the same
+/// turn or the orders for the same company that is not known: that line may have been meant to
+/// begin others. The game is given as it was before the line.
+fn is_unneeded(
+    lines: &[SheetLine],
+    view: &GameView,
+    seat: Seat,
+    row: &RefusedLine,
+    rows: &[RefusedLine],
+) -> bool {
+    let (Verdict::Refused(rule), Some(line)) = (row.verdict, find_line(lines, seat, row.number))
+    else {
+        return false;
+    };
+    is_fallback(view, line.place, rule)
+        && !rows
+            .iter()
+            .any(|other| is_fault_above(lines, seat, other, row.number))
+}
+
+/// Returns whether a line of the sheet of a seat has a fault, and no turn or company's orders begin
+/// between it and the line with this number.
+fn is_fault_above(lines: &[SheetLine], seat: Seat, row: &RefusedLine, number: u32) -> bool {
+    let is_faulty = matches!(row.verdict, Verdict::Faulty(_));
+    is_faulty
+        && row.number < number
+        && !lines.iter().any(|line| {
+            line.is_head
+                && line.is_of(seat)
+                && line.number() > row.number
+                && line.number() <= number
+        })
 }
 
 /// Returns whether a line has a finding already with the code for which it was refused, or one that
@@ -117,7 +182,7 @@ fn tell_row<'a>(
     push(&mut found.told, &[Words(played.trial.words())])?;
     push_rule(alloc, &mut found.told, ruled, row.number, ruling)?;
     push_others(&mut found.told, played.trial, ruled, row.number, ruling)?;
-    add_told(found, line, sent, from)
+    add_told(played, line, from, false, found)
 }
 
 /// Adds what others have to do with the refusal of a line: whose offer is lacking, or who took the
@@ -144,19 +209,8 @@ fn push_others(
     }
 }
 
-/// Adds a finding of a line of a sheet: the part of the trials' texts from a place on.
-fn add_told<'a>(
-    found: &mut Found<'a>,
-    line: &FileLine<'a>,
-    sent: SheetKey,
-    from: usize,
-) -> Result<(), AllocError> {
-    let to = found.told.len();
-    found.add_line(line, Matter::Tried { sent, from, to })
-}
-
 /// Adds what happens when a company must buy a train, to the line with which its orders begin, or
-/// to the SHEET line if it has none.
+/// to the SHEET line if it has none. It is said before all other findings, and is always listed.
 pub(crate) fn tell_forced<'a>(
     played: TriedSheet<'_, '_, '_, 'a>,
     forced: Forced,
@@ -168,5 +222,5 @@ pub(crate) fn tell_forced<'a>(
     let from = found.told.len();
     push(&mut found.told, &[Words(played.trial.words())])?;
     push_forced(&mut found.told, sheets, forced)?;
-    add_told(found, &line, played.head.sent, from)
+    add_told(played, &line, from, true, found)
 }

@@ -3,7 +3,7 @@ ghost use Rattle.std.specs.Prelude.{◌≡◌, ◌++◌, IfOk, OnOk};
 ghost use Rattle.std.specs.List.{flat_map};
 ghost use Rattle.foresight.specs.TrialFile.{IsBegun, alone_file, tried_file};
 ghost use Rattle.desk_trials.specs.Heads.{AreKept};
-ghost use Rattle.desk_trials.specs.Trials.{IsTried, has_no_room, head_if, sheets_for};
+ghost use Rattle.desk_trials.specs.Trials.{IsTried, awaited_of, has_no_room, head_if, sheets_for};
 
 use crate::check_found::{Found, Standing};
 use crate::check_sheets::{Head, Heads};
@@ -11,6 +11,7 @@ use crate::forced::forced_of;
 use crate::numbered::numbered_lines;
 use crate::outcome::{Outcome, SeatLine, push_lines, rows_beyond};
 use crate::refusals::{RefusedLine, refused_of};
+use crate::remedy::with_remedies;
 use crate::told::{Trial, TriedSheet, tell_forced, tell_refused};
 use foresight::TrialFile;
 use rounds::{End, Game, play};
@@ -34,11 +35,11 @@ pub struct Reached {
     pub last: Option<Outcome>,
 }
 
-/// Adds what the trials alone find in the sheets for the awaited round, and, if only a part of the
-/// file is reported, in the sheets for the last round played that begin on the first reported line
-/// or below it; for these only what happened in the round itself, too. Adds to `beyond` what the
-/// trial of all sheets for the awaited round refuses and no trial alone does. Fails only if
-/// allocation fails.
+/// Adds what the trials alone find in the sheets for the awaited round, and adds to `beyond` what
+/// the trial of all these sheets refuses and no trial alone does. If only a part of the file is
+/// reported, the last round played is looked at, too: as if it were awaited while no sheet for the
+/// next round is there; then only by those of its sheets that begin on the first reported line or
+/// below it, and for what happened in the round itself. Fails only if allocation fails.
 pub fn try_sheets<'a>(
     alloc: Global,
     file: &[u8],
@@ -51,8 +52,9 @@ pub fn try_sheets<'a>(
     requires same { sheets.now ≡ file.now }
     requires kept { AreKept heads.now }
 {
-    let last = last_to_try(alloc, heads, reached, found.from)?;
-    let awaited = awaited_to_try(alloc, heads, reached)?;
+    let round = round_to_try(heads, reached, found.from);
+    let last = last_to_try(alloc, heads, reached, round, found.from)?;
+    let awaited = awaited_to_try(alloc, heads, round)?;
     if last.is_empty() && awaited.is_empty() || has_no_room(file, heads) {
         return Ok(());
     }
@@ -66,7 +68,7 @@ pub fn try_sheets<'a>(
         found,
     )?;
     let alone = try_each_alone(alloc, sheets, awaited.as_slice(), &None, &mut trial, found)?;
-    let End::Awaiting(round) = reached.standing.end else {
+    let Some(round) = round else {
         return Ok(());
     };
     // If there is only one sheet, its trial alone is the trial of all.
@@ -93,33 +95,58 @@ fn has_no_room(file: &[u8], heads: &Heads) -> bool
     file.len() >= FILE_MOST || heads.heads.len() >= SHEETS_MOST
 }
 
-/// Returns the heads of the sheets for the last round that was played that are tried: those that
-/// begin on a line of the file or below it. Fails only if allocation fails.
+/// Returns the round whose sheets are tried as if it were to come: the awaited round if it has a
+/// sheet; otherwise the last that was played, if a sheet for it is among the reported lines.
+fn round_to_try(heads: &Heads, reached: &Reached, from: usize) -> Option<Round> {
+    if let End::Awaiting(round) = reached.standing.end
+        && has_sheet(heads, round, 0)
+    {
+        return Some(round);
+    }
+    let last = reached.standing.last?;
+    if reached.last.is_some() && has_sheet(heads, last, from) {
+        Some(last)
+    } else {
+        None
+    }
+}
+
+/// Returns whether a sheet for a round begins on a line of the file or below it.
+fn has_sheet(heads: &Heads, round: Round, from: usize) -> bool {
+    heads.heads.iter().any(|head| head.sent.round == round && head.line.number >= from)
+}
+
+/// Returns the heads of the sheets for the last round that was played that are tried for what
+/// happened in it: those that begin on a line of the file or below it, unless the round is tried as
+/// if it were to come. Fails only if allocation fails.
 fn last_to_try<'a>(
     alloc: Global,
     heads: &Heads<'a>,
     reached: &Reached,
+    tried: Option<Round>,
     from: usize,
 ) -> Result<Vec<Head<'a>>, AllocError>
     requires { AreKept heads.now }
 {
     match (reached.standing.last, &reached.last) {
-        (Some(round), Some(_)) => sheets_for(alloc, heads, round, from),
+        (Some(round), Some(_)) if tried != Some(round) => sheets_for(alloc, heads, round, from),
         _ => Ok(Vec::new(alloc)),
     }
 }
 
-/// Returns the heads of the sheets for the awaited round. Fails only if allocation fails.
+/// Returns the heads of the sheets for the round that is tried as if it were to come. Fails only if
+/// allocation fails.
 fn awaited_to_try<'a>(
     alloc: Global,
     heads: &Heads<'a>,
-    reached: &Reached,
+    round: Option<Round>,
 ) -> Result<Vec<Head<'a>>, AllocError>
     requires { AreKept heads.now }
+    ensures { IfOk result (λ tried. tried.items ≡ awaited_of heads.now round) }
 {
-    match reached.standing.end {
-        End::Awaiting(round) => sheets_for(alloc, heads, round, 0),
-        End::Bank | End::Bankrupt => Ok(Vec::new(alloc)),
+    match round {
+        Some(round) => sheets_for(alloc, heads, round, 0),
+        None => Ok(Vec::new(alloc)),
     }
 }
 
@@ -259,10 +286,13 @@ fn tell_alone<'a>(
         numbered: numbered.as_slice(),
     };
     tell_refused(alloc, sheet, rows.as_slice(), found)?;
-    for forced in &forced_of(alloc, &game, head.sent)? {
-        if played.as_ref().map_or(true, |outcome| outcome.has(*forced)) {
-            tell_forced(sheet, *forced, found)?;
-        }
+    let forced = forced_of(alloc, &game, head.sent)?;
+    let forced = match played {
+        Some(outcome) => outcome.also_forced(alloc, forced.as_slice())?,
+        None => with_remedies(alloc, &game, head.sent, forced.as_slice())?,
+    };
+    for one in &forced {
+        tell_forced(sheet, *one, found)?;
     }
     push_lines(alone, head.sent.seat, rows.as_slice())
 }

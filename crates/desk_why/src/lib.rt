@@ -3,13 +3,16 @@
 //! writes a stream.
 //!
 //! Reading order: `refused` (which lines were refused), `sheet_line` (the lines of the sheets),
-//! `why` (the rule that a line broke), `figures` (the figures that it compared), `done` (the last
-//! step of a company's turn), `cause` (which of several causes it was), `refusal_detail` (what is
-//! added after the rule), `track` and `ways` (where track breaks or leads).
+//! `why` (the rule that a line broke), `case` (what is said of it), `figures` (the figures that it
+//! compared), `done` (the last step of a company's turn), `fallback` (lines that are not needed),
+//! `cause` (which of several causes it was), `refusal_detail` (what is added after the rule),
+//! `track` and `ways` (where track breaks or leads).
 #![tactic(auto)]
 
+mod case;
 mod cause;
 mod done;
+mod fallback;
 mod figures;
 mod refusal_detail;
 mod refused;
@@ -18,7 +21,9 @@ mod track;
 mod ways;
 mod why;
 
-pub use refusal_detail::Ruled;
+pub use case::push_case;
+pub use fallback::is_fallback;
+pub use refusal_detail::{Ruled, push_place_meant};
 pub use refused::{refused_in, within_then};
 pub use sheet_line::{LinePlace, SheetLine, find_line, lines_of};
 pub use why::{FAULTY_COLUMNS, push_rule, push_why};

@@ -1,7 +1,8 @@
 //! What is added after the rule that refused an order: the figures that it compared, and the cause
 //! if there are several.
-ghost use Rattle.std.specs.Prelude.{◌≡◌, ◌<◌};
+ghost use Rattle.std.specs.Prelude.{◌≡◌, ◌<◌, option_and_then};
 ghost use Rattle.desk_why.specs.Detail.{cause_at, colour_after, colour_then, detail_of};
+ghost use Rattle.desk_why.specs.Why.{company_at};
 ghost use Rattle.map_tables.specs.Hex.{same_hex};
 
 use crate::cause::{cause_of, cause_out_of_place};
@@ -19,11 +20,14 @@ use history::{
     Shareholder, StockRule, TokenRule, TrainRule,
 };
 use map_tables::{Colour, Hex, Lay, Place, printed_colour, tile};
-use order_grammar::{Condition, Fault, Order, PlayOrder, TrainSource};
+use order_grammar::{
+    Condition, Fault, Offer, Order, PlayOrder, TrainSource, begins_with_word, print_play_order,
+};
+use purchases::has_train;
 use report::name;
 use sheets::Sheets;
 use std::alloc::{AllocError, Global};
-use tables::{Company, Money, Private, Round, Seat};
+use tables::{Amount, Company, Kind, Money, Private, Round, Seat};
 
 /// Where a line was ruled.
 #[derive(Clone, Copy)]
@@ -44,7 +48,9 @@ pub struct Ruled<'a> {
 
 impl Ruled<'_> {
     /// Returns the company whose orders the line is among, if that is known.
-    fn company(&self) -> Option<Company> {
+    fn company(&self) -> Option<Company>
+        ensures { result ≡ option_and_then company_at self.now.place }
+    {
         self.place?.company()
     }
 }
@@ -154,15 +160,31 @@ fn push_cause(out: &mut Vec<u8>, place: LinePlace, cause: Cause) -> Result<(), A
     }
 }
 
-/// Adds which lines are allowed where a misplaced line of a round is; nothing for other faults.
+/// Adds which lines are allowed where a misplaced line of a round is, and where that line may be;
+/// nothing for other faults.
 pub(crate) fn push_of_place(
     out: &mut Vec<u8>,
     round: Round,
-    place: LinePlace,
+    line: &SheetLine,
     fault: Fault,
 ) -> Result<(), AllocError> {
     match fault {
-        Fault::OutOfPlace => push_cause(out, place, cause_out_of_place(round, place)),
+        Fault::OutOfPlace => {
+            push_cause(out, line.place, cause_out_of_place(round, line.place))?;
+            push_place_meant(out, round, line.text)
+        }
+        _ => Ok(()),
+    }
+}
+
+/// Adds where a misplaced line of a sheet for a round is to be written, if its first word shows
+/// that: an OFFER or a DISCARD. Fails only if allocation fails.
+pub fn push_place_meant(out: &mut Vec<u8>, round: Round, line: &[u8]) -> Result<(), AllocError> {
+    let is_standing = begins_with_word(line, b"OFFER") || begins_with_word(line, b"DISCARD");
+    match round {
+        Round::Operating { .. } if is_standing => {
+            fill(out, "; write it above the first COMPANY", &[])
+        }
         _ => Ok(()),
     }
 }
@@ -199,13 +221,17 @@ fn push_of_exchange(out: &mut Vec<u8>, ruled: Ruled) -> Result<(), AllocError> {
         return push_objection(out, ruled.sheets, reason);
     }
     let company = Company::NewYorkCentral;
+    let in_bank = ruled.view.shares(company, Shareholder::InitialOffering)
+        + ruled.view.shares(company, Shareholder::BankPool);
+    if in_bank == 0 {
+        return fill(out, " (IPO and POOL have no share of NYC)", &[]);
+    }
     let pieces = [
         Bytes(name(ruled.sheets, ruled.seat)),
         Number(ruled.view.shares(company, Shareholder::Seat(ruled.seat))),
-        Number(ruled.view.shares(company, Shareholder::InitialOffering)),
-        Number(ruled.view.shares(company, Shareholder::BankPool)),
     ];
-    fill(out, " (% has % of NYC, % are in IPO, % in POOL)", &pieces)
+    let words = " (% has % shares of NYC, the most outside the orange and the brown zone)";
+    fill(out, words, &pieces)
 }
 
 /// Adds why an order breaks a rule, if the map and the tables alone show it.
@@ -249,22 +275,49 @@ fn push_by_view(
             Refusal::Train(TrainRule::NoConsent),
             Order::Play(
                 PlayOrder::BuyTrain {
+                    kind,
                     from: TrainSource::Company { seller, price },
-                    ..
                 },
             ),
-        ) if *price > 0 => {
-            let reason = Objection::President(*seller, ruled.view.president(*seller));
-            push_objection(out, ruled.sheets, reason)
-        }
+        ) if *price > 0 => push_offer_lacking(out, ruled, *kind, *seller, *price),
         (Refusal::Lay(LayRule::WrongTile), Order::Play(PlayOrder::Lay(lay))) => {
-            push_colour(out, ruled.view, lay.hex)
+            push_colour(out, ruled.view, *lay)
         }
         _ => match objection_by_view(ruled.view, ruled.seat, order) {
             Some((broken, reason)) if broken == rule => push_objection(out, ruled.sheets, reason),
             _ => Ok(()),
         },
     }
+}
+
+/// Adds which offer a purchase of a train from a company lacks; if the company has no such train, or
+/// is the buyer, only that, since then no offer is enough.
+fn push_offer_lacking(
+    out: &mut Vec<u8>,
+    ruled: Ruled,
+    kind: Kind,
+    seller: Company,
+    price: Amount,
+) -> Result<(), AllocError> {
+    let president = ruled.view.president(seller);
+    let (Some(buyer), Some(giver)) = (ruled.company(), president) else {
+        return push_objection(out, ruled.sheets, Objection::President(seller, president));
+    };
+    if !has_train(ruled.view, seller, kind) {
+        return push_objection(out, ruled.sheets, Objection::NoTrain(seller, kind));
+    }
+    let giver = Bytes(name(ruled.sheets, giver));
+    let words = "; %, who presides over %, has not offered it: it needs %'s ";
+    fill(out, words, &[giver, Words(seller.code()), giver])?;
+    print_play_order(
+        out,
+        PlayOrder::Offer(Offer::Train {
+            kind,
+            seller,
+            buyer,
+            price,
+        }),
+    )
 }
 
 /// Adds the hexes of a run between which no track leads.
@@ -291,11 +344,17 @@ fn push_full(
     fill(out, cause_of_slot(&board, place).words(), &[])
 }
 
-/// Adds the colour of a hex at a moment of the game.
-fn push_colour(out: &mut Vec<u8>, view: &GameView, hex: Hex) -> Result<(), AllocError> {
-    let code = hex.text();
-    let colour = Words(colour_name(colour_after(view.events(), hex)));
-    fill(out, " (% is % now)", &[Bytes(code.as_slice()), colour])
+/// Adds the colour of a hex at a moment of the game, and that of a tile that was to be laid there.
+fn push_colour(out: &mut Vec<u8>, view: &GameView, lay: Lay) -> Result<(), AllocError> {
+    let code = lay.hex.text();
+    let colour = Words(colour_name(colour_after(view.events(), lay.hex)));
+    let number = Number(Money::from(lay.tile.number()));
+    let its = Words(colour_name(tile(lay.tile).colour));
+    fill(
+        out,
+        " (% is % now, and % is a % tile)",
+        &[Bytes(code.as_slice()), colour, number, its],
+    )
 }
 
 /// Returns the colour of a hex after some events: that of its print, or of the tile laid last.

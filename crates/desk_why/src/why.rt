@@ -1,7 +1,9 @@
 //! Why a line was refused: the rule that it broke, and the figures that the rule compared.
-ghost use Rattle.std.specs.Prelude.{◌≡◌};
+ghost use Rattle.std.specs.Prelude.{◌≡◌, None, OnOk};
 ghost use Rattle.desk_why.specs.Why.{reason_of};
+ghost use Rattle.events.specs.RulingText.{verdict_of};
 
+use crate::case::push_case;
 use crate::refusal_detail::{Ruled, push_of_place, push_refusal_detail};
 use crate::sheet_line::{SheetLine, find_line};
 use desk_base::Piece::{Cut, Words};
@@ -22,7 +24,9 @@ pub fn push_why<'a>(
     ruled: Ruled<'a>,
     number: u32,
     ruling: &PackedRuling,
-) -> Result<(), AllocError> {
+) -> Result<(), AllocError>
+    ensures { reason_of (verdict_of ruling.now) ≡ None → OnOk result (out.new ≡ out.old) }
+{
     if reason_of(ruling.verdict()).is_none() {
         return Ok(());
     }
@@ -39,7 +43,9 @@ pub fn push_rule<'a>(
     ruled: Ruled<'a>,
     number: u32,
     ruling: &PackedRuling,
-) -> Result<(), AllocError> {
+) -> Result<(), AllocError>
+    ensures { reason_of (verdict_of ruling.now) ≡ None → OnOk result (out.new ≡ out.old) }
+{
     let Some(reason) = reason_of(ruling.verdict()) else {
         return Ok(());
     };
@@ -47,10 +53,15 @@ pub fn push_rule<'a>(
     if let (Verdict::Faulty(fault), Some(line)) = (ruling.verdict(), line) {
         return push_fault(out, ruled, &line, fault);
     }
-    let (code, rule) = (Words(reason.code()), Words(reason.sentence()));
-    fill(out, "%: %", &[code, rule])?;
     let place = line.map(|line| line.place);
-    push_refusal_detail(alloc, out, Ruled { place, ..ruled }, &ruling.ruling())
+    let mut detail = Vec::new(alloc);
+    push_refusal_detail(
+        alloc,
+        &mut detail,
+        Ruled { place, ..ruled },
+        &ruling.ruling(),
+    )?;
+    push_case(out, reason, detail.as_slice())
 }
 
 /// Adds the fault of a line of a sheet, with its code, the line itself, and what to write in its
@@ -67,7 +78,7 @@ fn push_fault(
         "%: %: %",
         &[code, rule, Cut(line.text, FAULTY_COLUMNS)],
     )?;
-    push_of_place(out, ruled.round, line.place, fault)?;
+    push_of_place(out, ruled.round, line, fault)?;
     let faulty = Faulty {
         version: ruled.sheets.version(),
         line: line.text,

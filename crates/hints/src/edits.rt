@@ -1,27 +1,34 @@
 //! Lines that are one edit away from a line, each as a whole, in upper case.
-ghost use Rattle.std.specs.Prelude.{◌≡◌, OnOk};
+ghost use Rattle.std.specs.Prelude.{◌≡◌, OnOk, []};
 ghost use Rattle.hints.specs.Words.{with_word};
 
+use crate::choice::is_order;
+use crate::signs::{bare, by_sign, push_amount};
 use crate::slips::{is_code, is_near, nearest};
 use crate::vocabulary::{CODES, FIRSTS};
-use crate::words::has_digit;
+use crate::words::{LETTERS_MOST, has_digit};
+use order_grammar::Version;
 use std::alloc::{AllocError, Global};
+use std::ops::Range;
 
-/// The sign > as HTML mail writes it.
-const HTML_SIGN: &[u8] = b"&gt;";
-
-/// Some lines, no two of which are equal.
+/// The edited lines that are orders, no two of which are equal.
 #[derive(Drop)]
 pub(crate) struct Edited {
     pub(crate) alloc: Global,
+    /// The version of the file.
+    pub(crate) version: Version,
     pub(crate) lines: Vec<Vec<u8>>,
 }
 
 impl Edited {
     /// Returns no lines yet.
-    pub(crate) fn none(alloc: Global) -> Edited {
+    pub(crate) fn none(alloc: Global, version: Version) -> Edited
+        ensures version { result.version ≡ version }
+        ensures none { result.lines.items ≡ [] }
+    {
         Edited {
             alloc,
+            version,
             lines: Vec::new(alloc),
         }
     }
@@ -35,13 +42,15 @@ impl Edited {
         Ok(texts)
     }
 
-    /// Adds a line, unless it is there already.
-    fn add(&mut self, line: Vec<u8>) -> Result<(), AllocError> {
-        if self
+    /// Adds a line if it is an order, unless it is there already.
+    fn add(&mut self, line: Vec<u8>) -> Result<(), AllocError>
+        ensures { self.new.version ≡ self.old.version }
+    {
+        let is_there = self
             .lines
             .iter()
-            .any(|other| other.as_slice() == line.as_slice())
-        {
+            .any(|other| other.as_slice() == line.as_slice());
+        if is_there || !is_order(self.version, line.as_slice()) {
             return Ok(());
         }
         self.lines.push(line)?;
@@ -49,7 +58,9 @@ impl Edited {
     }
 
     /// Adds the line of some words.
-    pub(crate) fn push(&mut self, words: &[&[u8]]) -> Result<(), AllocError> {
+    pub(crate) fn push(&mut self, words: &[&[u8]]) -> Result<(), AllocError>
+        ensures { self.new.version ≡ self.old.version }
+    {
         let mut line = Vec::new(self.alloc);
         for word in words {
             push_word(&mut line, word)?;
@@ -58,7 +69,9 @@ impl Edited {
     }
 
     /// Adds the line of some words with another word at a place.
-    fn push_with(&mut self, words: &[&[u8]], place: usize, other: &[u8]) -> Result<(), AllocError> {
+    fn push_with(&mut self, words: &[&[u8]], place: usize, other: &[u8]) -> Result<(), AllocError>
+        ensures { self.new.version ≡ self.old.version }
+    {
         let mut line = Vec::new(self.alloc);
         for (at, word) in words.iter().enumerate() {
             push_word(&mut line, if at == place { other } else { word })?;
@@ -123,7 +136,7 @@ impl Edited {
             if let Some(next) = words.get(place.saturating_add(1)) {
                 self.push_joined(words, place, word, next)?;
             }
-            for at in 1..word.len() {
+            for at in splits_of(word) {
                 self.push_split(words, place, word, at)?;
             }
         }
@@ -131,7 +144,9 @@ impl Edited {
     }
 
     /// Adds the line of some words without the signs around them.
-    fn push_bare(&mut self, words: &[&[u8]]) -> Result<(), AllocError> {
+    fn push_bare(&mut self, words: &[&[u8]]) -> Result<(), AllocError>
+        ensures { self.new.version ≡ self.old.version }
+    {
         let mut line = Vec::new(self.alloc);
         for word in words {
             push_word(&mut line, bare(word))?;
@@ -139,16 +154,21 @@ impl Edited {
         self.add(line)
     }
 
-    /// Adds the line of some words in which each run of signs for "at least" is the word `>=`.
-    fn push_at_least(&mut self, words: &[&[u8]]) -> Result<(), AllocError> {
+    /// Adds the line of some words in which each run of signs for "at least" is the word `>=`. If
+    /// the sign was for "more than", the number after it is one more.
+    fn push_at_least(&mut self, words: &[&[u8]]) -> Result<(), AllocError>
+        ensures { self.new.version ≡ self.old.version }
+    {
         let mut line = Vec::new(self.alloc);
+        let mut is_over = false;
         for word in words {
-            let (before, sign, after) = by_sign(word);
-            push_word(&mut line, before)?;
-            if !sign.is_empty() {
+            let signed = by_sign(word);
+            is_over = push_amount(&mut line, signed.before, is_over)?;
+            if let Some(sign) = signed.sign {
                 push_word(&mut line, b">=")?;
+                is_over = sign.is_over;
             }
-            push_word(&mut line, after)?;
+            is_over = push_amount(&mut line, signed.after, is_over)?;
         }
         self.add(line)
     }
@@ -160,7 +180,9 @@ impl Edited {
         place: usize,
         word: &[u8],
         next: &[u8],
-    ) -> Result<(), AllocError> {
+    ) -> Result<(), AllocError>
+        ensures { self.new.version ≡ self.old.version }
+    {
         let mut joined = Vec::new(self.alloc);
         joined.extend_from_slice(word)?;
         joined.extend_from_slice(next)?;
@@ -183,7 +205,9 @@ impl Edited {
         place: usize,
         word: &[u8],
         at: usize,
-    ) -> Result<(), AllocError> {
+    ) -> Result<(), AllocError>
+        ensures { self.new.version ≡ self.old.version }
+    {
         let mut line = Vec::new(self.alloc);
         for (other, whole) in words.iter().enumerate() {
             if other == place {
@@ -216,7 +240,9 @@ impl Edited {
         from: usize,
         to: usize,
         moved: &[u8],
-    ) -> Result<(), AllocError> {
+    ) -> Result<(), AllocError>
+        ensures { self.new.version ≡ self.old.version }
+    {
         let mut line = Vec::new(self.alloc);
         for (at, word) in words.iter().enumerate() {
             if at == to && to < from {
@@ -263,49 +289,10 @@ pub(crate) fn push_word(line: &mut Vec<u8>, word: &[u8]) -> Result<(), AllocErro
     Ok(())
 }
 
-/// Returns a word without the signs around it, such as a colon, a comma, a full stop or quotation
-/// marks.
-fn bare(word: &[u8]) -> &[u8] {
-    let start = word.iter().position(|byte| !is_around(*byte));
-    let rest = word.get(start.unwrap_or(word.len())..).unwrap_or(&[]);
-    let end = rest.iter().rposition(|byte| !is_around(*byte));
-    rest.get(..end.map_or(0, |end| end.saturating_add(1)))
-        .unwrap_or(&[])
-}
-
-/// Returns whether a byte is a sign that may be around a word.
-fn is_around(byte: u8) -> bool {
-    !byte.is_ascii_alphanumeric() && !is_sign(byte)
-}
-
-/// Returns whether a byte is part of a sign for "at least".
-fn is_sign(byte: u8) -> bool {
-    matches!(byte, b'<' | b'>' | b'=')
-}
-
-/// Splits a word in three: what is before a sign for "at least", the sign, and what is after it.
-/// The sign is empty if the word has none.
-fn by_sign(word: &[u8]) -> (&[u8], &[u8], &[u8]) {
-    if let Some(after) = word.strip_prefix(HTML_SIGN) {
-        return (&[], HTML_SIGN, after.strip_prefix(b"=").unwrap_or(after));
-    }
-    let start = word
-        .iter()
-        .position(|byte| is_sign(*byte))
-        .unwrap_or(word.len());
-    let (before, rest) = (
-        word.get(..start).unwrap_or(word),
-        word.get(start..).unwrap_or(&[]),
-    );
-    let end = rest
-        .iter()
-        .position(|byte| !is_sign(*byte))
-        .unwrap_or(rest.len());
-    (
-        before,
-        rest.get(..end).unwrap_or(rest),
-        rest.get(end..).unwrap_or(&[]),
-    )
+/// Returns where a word may be split so that neither part is longer than a word of an order.
+fn splits_of(word: &[u8]) -> Range<usize> {
+    let least = word.len().saturating_sub(LETTERS_MOST).max(1);
+    least..word.len().min(LETTERS_MOST.saturating_add(1))
 }
 
 /// Returns the player whose name is nearly this word: one slip away, or longer or shorter at its

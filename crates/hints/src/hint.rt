@@ -2,14 +2,17 @@
 ghost use Rattle.std.specs.Prelude.{◌≡◌, IfOk, IfSome, true};
 ghost use Rattle.hints.specs.Choice.{is_order};
 ghost use Rattle.hints.specs.Meant.{IsMeant};
+ghost use Rattle.hints.specs.Slip.{texts};
+ghost use Rattle.hints.specs.Words.{is_mendable};
 
 use crate::choice::only_order;
 use crate::completed::{Completed, begins_with_place, is_condition_alone};
 use crate::edits::Edited;
 use crate::mail::{ends_quoted, has_quoted_sign, stray_in, without_strays};
-use crate::slips::nearest;
+use crate::remark::{push_before_remark, push_without_sign};
+use crate::slips::{is_code, nearest};
 use crate::vocabulary::{CODES, FIRSTS};
-use crate::words::{has_digit, words_of};
+use crate::words::{has_digit, is_mendable, words_of};
 use order_grammar::{Fault, Version, print_number};
 use std::alloc::{AllocError, Global};
 
@@ -128,17 +131,33 @@ fn meant_by(alloc: Global, faulty: Faulty) -> Result<Meant, AllocError>
 {
     let clean = without_strays(alloc, faulty.line)?;
     let (words, count) = words_of(clean.as_slice());
-    let Some(words) = words.get(..count) else {
-        return Ok(Meant::Unknown);
-    };
+    if matches!(faulty.fault, Fault::UnknownWord | Fault::WrongWords) {
+        let mut edited = Edited::none(alloc, faulty.version);
+        push_before_remark(&mut edited, &words)?;
+        push_without_sign(&mut edited, clean.as_slice())?;
+        if let Meant::Line(line) = only_of(faulty.version, &edited)? {
+            return Ok(Meant::Line(line));
+        }
+    }
+    match words.get(..count) {
+        Some(words) if is_mendable(words) => meant_by_few(alloc, faulty, words),
+        _ => Ok(Meant::Unknown),
+    }
+}
+
+/// Returns what was meant by a line with a fault that has these words, all of which may be mended.
+fn meant_by_few(alloc: Global, faulty: Faulty, words: &[&[u8]]) -> Result<Meant, AllocError>
+    requires mendable { is_mendable (texts words.now) ≡ true }
+    ensures { IfOk result (IsMeant faulty.entry.version) }
+{
     match faulty.fault {
         Fault::StrayByte => {
-            let mut edited = Edited::none(alloc);
+            let mut edited = Edited::none(alloc, faulty.version);
             edited.push(words)?;
             only_of(faulty.version, &edited)
         }
         Fault::UnknownPlayer => {
-            let mut edited = Edited::none(alloc);
+            let mut edited = Edited::none(alloc, faulty.version);
             edited.push_named(words, faulty.players)?;
             only_of(faulty.version, &edited)
         }
@@ -151,9 +170,10 @@ fn meant_by(alloc: Global, faulty: Faulty) -> Result<Meant, AllocError>
 /// words split or joined, with one moved, or without one. The first of these edits that gives an
 /// order decides.
 fn meant_by_words(alloc: Global, faulty: Faulty, words: &[&[u8]]) -> Result<Meant, AllocError>
+    requires mendable { is_mendable (texts words.now) ≡ true }
     ensures { IfOk result (IsMeant faulty.entry.version) }
 {
-    let mut respelled = Edited::none(alloc);
+    let mut respelled = Edited::none(alloc, faulty.version);
     respelled.push_respelled(words)?;
     respelled.push_named(words, faulty.players)?;
     if let Meant::Line(line) = only_of(faulty.version, &respelled)? {
@@ -163,17 +183,17 @@ fn meant_by_words(alloc: Global, faulty: Faulty, words: &[&[u8]]) -> Result<Mean
     if !completed.said.is_empty() {
         return Ok(Meant::Completed(completed));
     }
-    let mut parted = Edited::none(alloc);
+    let mut parted = Edited::none(alloc, faulty.version);
     parted.push_parted(words)?;
     if let Meant::Line(line) = only_of(faulty.version, &parted)? {
         return Ok(Meant::Line(line));
     }
-    let mut moved = Edited::none(alloc);
+    let mut moved = Edited::none(alloc, faulty.version);
     moved.push_moved(words)?;
     if let Meant::Line(line) = only_of(faulty.version, &moved)? {
         return Ok(Meant::Line(line));
     }
-    let mut shortened = Edited::none(alloc);
+    let mut shortened = Edited::none(alloc, faulty.version);
     shortened.push_shortened(words, matches!(faulty.fault, Fault::UnknownWord))?;
     only_of(faulty.version, &shortened)
 }
@@ -221,14 +241,14 @@ fn is_pass(words: &[&[u8]]) -> bool {
 /// lines, and if that is one of them to those that follow among the words and codes of orders.
 fn push_nearest(out: &mut Vec<u8>, line: &[u8]) -> Result<(), AllocError> {
     let (words, _) = words_of(line);
-    if !is_first(words[0]) {
+    if !is_code(words[0], &FIRSTS) {
         return match nearest(words[0], &FIRSTS) {
             Some(first) => push_write(out, words[0], first),
             None => Ok(()),
         };
     }
     for word in words.iter().skip(1) {
-        if has_digit(word) || is_first(word) {
+        if has_digit(word) || is_code(word, &FIRSTS) {
             continue;
         }
         if let Some(code) = nearest(word, &CODES) {
@@ -244,9 +264,4 @@ fn push_write(out: &mut Vec<u8>, word: &[u8], code: &[u8]) -> Result<(), AllocEr
     out.extend_from_slice(word.get(..SHOWN).unwrap_or(word))?;
     out.extend_from_slice(b" write ")?;
     out.extend_from_slice(code)
-}
-
-/// Returns whether a word begins some form of line, as IF begins a conditional order.
-fn is_first(word: &[u8]) -> bool {
-    FIRSTS.iter().any(|first| word.eq_ignore_ascii_case(first))
 }

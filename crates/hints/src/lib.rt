@@ -6,9 +6,10 @@
 //! forms of orders.
 //!
 //! Reading order: `words` (the words of a line), `slips` (words that are nearly a known one),
-//! `choice` (which of some lines is an order), `vocabulary` (the words of orders), `edits` (lines
-//! that are one edit away), `completed` (lines that lack their end), `mail` (what mail and editors
-//! put into a line), `sentence` (what is said of a fault), `hint` (`push_hint`, `line_meant`).
+//! `choice` (which of some lines is an order), `vocabulary` (the words of orders), `signs` (signs
+//! in and around words), `edits` (lines that are one edit away), `completed` (lines that lack their
+//! end), `remark` (orders with a remark), `mail` (what mail and editors put into a line),
+//! `sentence` (what is said of a fault), `hint` (`push_hint`, `line_meant`).
 #![tactic(auto)]
 
 mod choice;
@@ -16,7 +17,9 @@ mod completed;
 mod edits;
 mod hint;
 mod mail;
+mod remark;
 mod sentence;
+mod signs;
 mod slips;
 mod vocabulary;
 mod words;

@@ -1,9 +1,63 @@
 //! The words of a line, as they are written.
 ghost use Rattle.std.specs.Prelude.{◌≡◌};
-ghost use Rattle.hints.specs.Words.{ends_word, has_digit};
+ghost use Rattle.hints.specs.Words.{are_within, ends_word, has_digit, has_other_than_digits};
+ghost use Rattle.hints.specs.Words.{is_long_number, is_mendable};
+ghost use Rattle.hints.specs.Words.{is_without_long_number};
+ghost use Rattle.hints.specs.Slip.{texts};
 
 /// How many words of a line are looked at.
 pub(crate) const WORDS_MOST: usize = 12;
+
+/// The most letters of a word of an order.
+pub(crate) const LETTERS_MOST: usize = 9;
+
+/// The most digits of a number of an order.
+pub(crate) const DIGITS_MOST: usize = 5;
+
+/// The most letters of the words that are mended, taken together.
+const MENDED_MOST: usize = WORDS_MOST * LETTERS_MOST;
+
+/// Returns whether some words are few and short enough for an order with a slip in it: they have at
+/// most 108 letters, and none is a number of more than five digits.
+pub(crate) fn is_mendable(words: &[&[u8]]) -> bool
+    ensures { result ≡ is_mendable (texts words.now) }
+{
+    are_within(MENDED_MOST, words) && is_without_long_number(words)
+}
+
+/// Returns whether some words have at most this many letters, digits and signs.
+fn are_within(most: usize, words: &[&[u8]]) -> bool
+    ensures { result ≡ are_within most (texts words.now) }
+{
+    match words {
+        [] => true,
+        [word, rest @ ..] => word.len() <= most && are_within(most - word.len(), rest),
+    }
+}
+
+/// Returns whether none of some words is a number of more digits than any sum has.
+fn is_without_long_number(words: &[&[u8]]) -> bool
+    ensures { result ≡ is_without_long_number (texts words.now) }
+{
+    match words {
+        [] => true,
+        [word, rest @ ..] => !is_long_number(word) && is_without_long_number(rest),
+    }
+}
+
+/// Returns whether a word is a number of more than five digits.
+fn is_long_number(word: &[u8]) -> bool
+    ensures { result ≡ is_long_number word.now }
+{
+    word.len() > DIGITS_MOST && !has_other_than_digits(word)
+}
+
+/// Returns whether a word has a letter or a sign.
+fn has_other_than_digits(word: &[u8]) -> bool
+    ensures { result ≡ has_other_than_digits word.now }
+{
+    word.iter().any(|byte| !byte.is_ascii_digit())
+}
 
 /// Returns the first words of a line before its comment, at most 12, and how many words it has
 /// there.
