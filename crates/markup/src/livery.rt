@@ -17,7 +17,7 @@ pub struct Livery {
 /// What the tokens and lines look like, in the order of the roster.
 const LIVERIES: PerCompany<Livery> = [
     Livery {
-        fill: "#1f7a3d",
+        fill: "#1e793d",
         is_dark: true,
         dash: "",
     },
@@ -27,7 +27,7 @@ const LIVERIES: PerCompany<Livery> = [
         dash: "18 6",
     },
     Livery {
-        fill: "#c8102e",
+        fill: "#ca0b2d",
         is_dark: true,
         dash: "7 5",
     },
@@ -52,7 +52,7 @@ const LIVERIES: PerCompany<Livery> = [
         dash: "12 4 3 4 3 4",
     },
     Livery {
-        fill: "#7a3b8f",
+        fill: "#5a2a6e",
         is_dark: true,
         dash: "9 9",
     },

@@ -3,10 +3,10 @@
 /// The style of a page. No rule for the content of a `use` depends on an ancestor, since it has
 /// none there.
 pub const STYLE: &str = "\n\
-    :root{--P:#1f7a3d;--N:#3a3a3c;--C:#c8102e;--B:#0a57a4;--O:#5fb4dc;--E:#e6c700;\
-    --H:#f0913a;--M:#7a3b8f;\n\
-    --lP:#1f7a3d;--lN:#3a3a3c;--lC:#c8102e;--lB:#0a57a4;--lO:#2d7ea3;--lE:#857000;\
-    --lH:#b35a0c;--lM:#7a3b8f;\n\
+    :root{--P:#1e793d;--N:#3a3a3c;--C:#ca0b2d;--B:#0a57a4;--O:#5fb4dc;--E:#ebcc0c;\
+    --H:#f0913a;--M:#5a2a6e;\n\
+    --lP:#1e793d;--lN:#3a3a3c;--lC:#ca0b2d;--lB:#0a57a4;--lO:#2d7ea3;--lE:#655600;\
+    --lH:#c66410;--lM:#5a2a6e;\n\
     --ink:#111;--paper:#fff;--rule:#bbb;--soft:#555;--band:#f1f1ee;color-scheme:light dark}\n\
     @media screen and (prefers-color-scheme:dark){:root{--ink:#eee;--paper:#1b1c1e;\
     --rule:#555;--soft:#aaa;--band:#2a2b2e}}\n\
@@ -17,7 +17,10 @@ pub const STYLE: &str = "\n\
     h1{font-size:25px;margin:0}h2{font-size:19px;margin:18px 0 6px}\
     h2 small,caption small{font-weight:normal;font-size:13px;color:var(--soft)}\n\
     .who{margin:0;font-weight:bold}nav{margin-left:auto}nav a{color:inherit;margin-left:10px}\n\
-    .skip{position:absolute;left:-999px}.skip:focus{left:16px}\
+    .skip{position:absolute;left:-999px}.skip:focus{left:16px;padding:4px;\
+    background:var(--paper);color:inherit}\
+    .back{display:none;position:fixed;right:8px;bottom:8px;padding:11px 14px;background:#111;\
+    color:#fff}main:has(li:target) .back{display:block}\n\
     section:focus-visible,a:focus-visible{outline:3px solid #1668b8}\n\
     .status{display:flex;flex-wrap:wrap;gap:6px 22px;margin:8px 0;padding:0;list-style:none}\
     .status small{display:block;font-size:12px;color:var(--soft)}\n\
@@ -95,6 +98,12 @@ pub const STYLE: &str = "\n\
     .plot{min-width:560px}th[scope=row]{position:sticky;left:0;background:var(--paper)}\
     .sum th[scope=row]{background:var(--band)}}\n\
     @media screen and (max-width:700px){.on{display:none}.key{display:block}\
+    svg.map{min-width:1120px}svg.chart{min-width:960px}.plot{min-width:700px}\
+    section{background:linear-gradient(90deg,var(--paper) 30%,transparent) 0 0/40px 100% local,\
+    linear-gradient(270deg,var(--paper) 30%,transparent) 100% 0/40px 100% local,\
+    linear-gradient(90deg,#0006,transparent) 0 0/14px 100% scroll,\
+    linear-gradient(270deg,#0006,transparent) 100% 0/14px 100% scroll;\
+    background-repeat:no-repeat}th[scope=row]{box-shadow:1px 0 var(--rule)}\
     nav{margin-left:0}nav a{display:inline-block;margin:0 10px 6px 0}\
     #runs thead{display:none}#runs tr{display:block;border-bottom:2px solid var(--rule);\
     padding:4px 0}#runs th,#runs td{display:inline-block;border:0;padding:1px 6px}\
@@ -102,7 +111,7 @@ pub const STYLE: &str = "\n\
     @page{size:A4 landscape;margin:8mm}\n\
     @media print{body{max-width:none;padding:0;font-size:11px;\
     -webkit-print-color-adjust:exact;print-color-adjust:exact}nav{display:none}\n\
-    .skip,.empty,.key{display:none}h2,h3,caption,thead{break-after:avoid}\n\
+    .skip,.empty,.key,.back{display:none}h2,h3,caption,thead{break-after:avoid}\n\
     h1{font-size:18px}h2{font-size:15px;margin:4px 0}caption{font-size:14px}\
     #map h2{display:none}\n\
     header,.status,#result{float:left;clear:left;width:33mm;border:0;display:block}\

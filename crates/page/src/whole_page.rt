@@ -19,7 +19,7 @@ use desk_base::{DeskFault, Stood, stood_now};
 use desk_state::{all_in_order, before_in_stack};
 use history::History;
 use markup::PagePiece::{Round as Named, Words};
-use markup::{Tag, Writer, begin_plain_section, begin_section};
+use markup::{Attr, Tag, Writer, begin_plain_section, begin_section};
 use page_charts::{ChartToken, ChartTokens, Entry, Players, put_chart, put_history};
 use page_map::{
     Scene, begin_map, end_map, moved_in_last_round, put_hexes, put_key, put_labels, put_laid,
@@ -161,6 +161,11 @@ fn page_text(
     put_tables(alloc, &mut out, scene, order.as_slice())?;
     put_tiles_left(&mut out, history);
     put_laid(&mut out, history);
+    out.begin_as(Tag::Anchor, "back");
+    out.value(Attr::Href, &[Words("#map")]);
+    out.within();
+    out.put(&[Words("Back to the map")]);
+    out.end();
     if let Form::Whole = told.form {
         put_hexes(&mut out, scene);
     }
@@ -233,6 +238,11 @@ fn put_map_section(
     routes: &Routes,
 ) -> Result<(), AllocError> {
     begin_plain_section(out, "map", "Map and routes");
+    out.begin_as(Tag::Anchor, "skip");
+    out.value(Attr::Href, &[Words("#routes")]);
+    out.within();
+    out.put(&[Words("Skip past the map")]);
+    out.end();
     match routes.round {
         Some(round) => out.element(Tag::H2, &[Words("Map and the routes of "), Named(round)]),
         None => out.element(Tag::H2, &[Words("Map")]),
