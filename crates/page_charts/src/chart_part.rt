@@ -204,11 +204,8 @@ fn put_arrow(out: &mut Writer, tokens: &ChartTokens, token: &ChartToken, has_hea
     let across = sign_of(i32::from(token.square.column) - i32::from(from.column));
     let down = sign_of(i32::from(token.square.row) - i32::from(from.row));
     let start = corner_of(from).plus(Point { x: 30, y: 36 });
-    let reach = ring_along(across, down);
-    let tip = place_of(tokens, token).minus(Point {
-        x: reach * across,
-        y: reach * down,
-    });
+    let direction = Point { x: across, y: down };
+    let tip = place_of(tokens, token).minus(direction.times(ring_along(across, down)));
     out.path("mv", &[Words("M"), To(start), Words("L"), To(tip)]);
     if !has_head {
         return;
@@ -238,7 +235,7 @@ fn put_arrow(out: &mut Writer, tokens: &ChartTokens, token: &ChartToken, has_hea
 /// Returns how far from the middle of a token its ring ends, along each axis, in the direction of
 /// an arrow.
 fn ring_along(across: i32, down: i32) -> i32
-    ensures least { pos 0 ≤ℤ result }
+    ensures least { pos 8 ≤ℤ result }
     ensures most { result ≤ℤ pos 11 }
 {
     if across == 0 || down == 0 { 11 } else { 8 }
