@@ -95,8 +95,8 @@ class Club:
 
 
 def is_address(text: str) -> bool:
-    """Returns whether a letter may go there."""
-    return len(text) <= LONGEST_ADDRESS and ADDRESS.fullmatch(text) is not None
+    """Returns whether a letter may go there. An address with an encoded word in it may mean another one."""
+    return len(text) <= LONGEST_ADDRESS and "=?" not in text and ADDRESS.fullmatch(text) is not None
 
 
 def read_club(path: Path, above: Path | None = None) -> Club:

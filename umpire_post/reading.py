@@ -13,9 +13,10 @@ from dataclasses import dataclass, field
 from datetime import datetime
 
 from umpire_post.club import Club, Player
+from umpire_post.errors import PostError
 from umpire_post.folder import Folder, Pending, Record, Sheet, line_count, with_sheets
 from umpire_post.heads import plain
-from umpire_post.message import Incoming
+from umpire_post.message import DAMAGED, Incoming
 from umpire_post.programs import Programs, Report
 from umpire_post.sheets import Found
 
@@ -101,6 +102,14 @@ class Reader:
     def read(self, incoming: Incoming, accepted: Record | None = None) -> Reading:
         """Reads a message. If the umpire accepts one that was read before, its record is given: then the
         sender and the key are not looked at, and the sheets that counted are left out."""
+        try:
+            return self._read(incoming, accepted)
+        except (PostError, OSError):
+            raise
+        except Exception:  # (whatever is wrong with one message, the next one is read)
+            return self._set_aside(Reading(incoming), DAMAGED, False)
+
+    def _read(self, incoming: Incoming, accepted: Record | None) -> Reading:
         reading = Reading(incoming, self.club.players_at(incoming.sender))
         if incoming.refused:
             reading.said = [f"It was not read: {incoming.refused}.", *self._unchanged(reading)]

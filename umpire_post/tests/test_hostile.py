@@ -116,6 +116,11 @@ class Failing(unittest.TestCase):
             with mock.patch("umpire_post.message.read_heads", side_effect=wrong("x")):
                 self.assertEqual([DAMAGED], read(b"From: ann@example.org\n\n" + SHEET.encode()).aside)
 
+    def test_what_the_judging_raises_sets_the_message_aside(self) -> None:
+        with mock.patch("umpire_post.reading.Reader._judge", side_effect=KeyError("x")):
+            reading = read(b"From: ann@example.org\n\n" + SHEET.encode())
+        self.assertEqual(([DAMAGED], [], False), (reading.aside, reading.sheets, reading.is_answered))
+
     def test_a_call_that_never_ends_is_ended(self) -> None:
         def never(_: bytes) -> int:
             while True:

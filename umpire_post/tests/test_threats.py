@@ -2,12 +2,14 @@
 
 import email
 import hmac
+import random
 import time
 import unittest
 from email.policy import default
 from unittest import mock
 
 from umpire_post.answers import answer
+from umpire_post.club import is_address
 from umpire_post.message import take_apart
 from umpire_post.parts import MAX_DEPTH, MAX_LINES, MAX_PARTS, MAX_TEXT, MAX_TEXT_LINES
 from umpire_post.reading import DAY, MOST_WRONG_KEYS, Reading
@@ -231,6 +233,21 @@ class Threats(unittest.TestCase):
         self.assertEqual(("<1@example.org>", "<2@example.org>", "<3@example.org>"), tuple(sorted(incoming.answers)))
         self.assertEqual("<3@example.org>", incoming.answers[-1])
         self.assertLessEqual(len(incoming.subject), 1000)
+
+    def test_an_address_with_an_encoded_word_is_none(self) -> None:
+        """The library decodes it in the head of a letter, and fails on the line end."""
+        for sender in ("=?utf-8?q?=0A?=@example.org", "<=?utf-8?q?=0D=0ABcc:x?=ann@example.org>", "=?utf-8?b?Cg==?=ann@example.org"):
+            self.assert_refused(message(SHEET, sender=sender), "not exactly one sender")
+
+    def test_a_letter_can_go_to_each_address_that_is_one(self) -> None:
+        chance = random.Random(1830)
+        signs = "abAB09.!#$%&'*+/=?^_`{|}~-"
+        reading = read(message(SHEET))
+        for _ in range(1_000):
+            address = "".join(chance.choice(signs) for _ in range(chance.randrange(1, 12))) + "@" + chance.choice(("example.org", "x", "-.a-", "1.2"))
+            if is_address(address):
+                made = answer(CLUB, reading, 1, [], Clock()(), to=address, name="0001-answer")
+                self.assertIn(f"\nTo: {address}\n", made.content.decode())
 
     def test_an_address_with_a_line_end_is_none(self) -> None:
         for sender in ('"x\\\nBcc: y@example.org" <ann@example.org\n>', "ann@example.org\r\nBcc: y@example.org", "<ann@exa mple.org>"):
