@@ -1,4 +1,5 @@
-//! What is said of an order that broke a rule: of a rule with several alternatives what is the case.
+//! What is said of an order that broke a rule: of a rule with several alternatives what is the
+//! case.
 ghost use Rattle.std.specs.Prelude.{◌≡◌, IfSome, true};
 ghost use Rattle.desk_why.specs.Case.{has_alternatives, names_alternatives};
 

@@ -290,8 +290,8 @@ fn push_by_view(
     }
 }
 
-/// Adds which offer a purchase of a train from a company lacks; if the company has no such train, or
-/// is the buyer, only that, since then no offer is enough.
+/// Adds which offer a purchase of a train from a company lacks; if the company has no such train,
+/// or is the buyer, only that, since then no offer is enough.
 fn push_offer_lacking(
     out: &mut Vec<u8>,
     ruled: Ruled,

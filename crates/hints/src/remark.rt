@@ -1,5 +1,5 @@
-//! Orders with a remark that is not written as a comment: `WITHHOLD // saving for a D`. Also an order
-//! with the sign of a comment inside: `LAY #57 H10 1`.
+//! Orders with a remark that is not written as a comment: `WITHHOLD // saving for a D`. Also an
+//! order with the sign of a comment inside: `LAY #57 H10 1`.
 
 use crate::edits::Edited;
 use crate::words::{is_mendable, words_of};
