@@ -1,4 +1,4 @@
--- What a line of a sheet is that is not played yet: a head, a line that may be taken up, or one
+-- What a line of a sheet is that is not played yet: a head, a line that may be reached, or one
 -- that has a fault by itself or whose order has no place where it is.
 use Rattle.std.specs.Prelude.{ℕ, Bool, true, false, if◌then◌else◌, List, Result, Ok, Err}
 use Rattle.desk_check.specs.declared.check_reading.Look.{Look}

@@ -473,7 +473,7 @@ fn is_out_of_place(fault: Fault) -> bool
 enum Look {
     /// The head of a written turn or a company's orders.
     Head,
-    /// A line that may be taken up.
+    /// A line that may be reached.
     Good,
     /// A line with this fault.
     Bad(Fault),

@@ -234,7 +234,7 @@ impl Telling<'_> {
         push_wrapped(out, BROUGHT, line.as_slice().trim_ascii())
     }
 
-    /// Adds the lines of a sheet that were not taken up, this many, and why not.
+    /// Adds the lines of a sheet that were not reached, this many, and why not.
     fn push_left(
         &self,
         out: &mut Vec<u8>,

@@ -1,4 +1,4 @@
-//! The lines of a sheet that were not taken up in a round, and why not.
+//! The lines of a sheet that were not reached in a round, and why not.
 
 use crate::bulletin_text::BROUGHT;
 use desk_base::Piece::{Bytes, Column, Count, Cut, Right, Words};
@@ -18,7 +18,7 @@ pub(crate) struct Presided {
     pub(crate) president: Option<Seat>,
 }
 
-/// A seat's sheet for a round in which some lines were not taken up.
+/// A seat's sheet for a round in which some lines were not reached.
 #[derive(Clone, Copy)]
 pub(crate) struct Left<'a> {
     pub(crate) alloc: Global,
@@ -58,7 +58,7 @@ pub(crate) fn ruled_in(
 }
 
 impl Left<'_> {
-    /// Adds the lines that were not taken up, this many, and below those of each turn or company's
+    /// Adds the lines that were not reached, this many, and below those of each turn or company's
     /// orders the reason. Lines that are not kept are only counted.
     pub(crate) fn push_lines(&self, out: &mut Vec<u8>, count: u32) -> Result<(), AllocError> {
         let mut turn: usize = 0;
@@ -86,7 +86,7 @@ impl Left<'_> {
         Ok(())
     }
 
-    /// Adds why the lines at a place were not taken up, if there are some. In an opening or a stock
+    /// Adds why the lines at a place were not reached, if there are some. In an opening or a stock
     /// round `turn` is the turn of the sheet that they are in.
     fn push_cause(
         &self,
@@ -113,7 +113,7 @@ impl Left<'_> {
         push_wrapped(out, BROUGHT + 4, why.as_slice())
     }
 
-    /// Adds why the orders for a company were not taken up.
+    /// Adds why the orders for a company were not reached.
     fn push_why_of_orders(&self, why: &mut Vec<u8>, company: Company) -> Result<(), AllocError> {
         let code = Words(company.code());
         match self

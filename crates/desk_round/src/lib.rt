@@ -13,7 +13,7 @@
 //!
 //! Reading order: `played`, `round_part` (`round`), `round_texts` (the game of a file),
 //! `train_runs` (`runs`), `groups` (whose turn an event belongs to), `changes` (whose cash
-//! changed), `left_lines` (lines that were not taken up), `bulletin_text` (`turns`). `desk_why`
+//! changed), `left_lines` (lines that were not reached), `bulletin_text` (`turns`). `desk_why`
 //! finds why a line was refused.
 #![tactic(auto)]
 

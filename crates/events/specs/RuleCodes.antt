@@ -28,7 +28,7 @@ text_of_opening_rule opening.NotCheapest =
     (codes "it buys a private that is not the cheapest unsold")
 text_of_opening_rule opening.BidTooLow =
     rule_text (codes "A4")
-    (codes "it bids under 5 above the face value, or under 5 above an earlier bid")
+    (codes "it bids less than 5 above the face value, or less than 5 above an earlier bid")
 text_of_opening_rule opening.CashTooSmall =
     rule_text (codes "A5")
     (codes "it costs more than your cash less your bids on other privates")
@@ -52,28 +52,29 @@ text_of_stock_rule stock.SaleInFirstRound = rule_text (codes "S2") (codes "it se
 text_of_stock_rule stock.NotHeld = rule_text (codes "S3") (codes "it sells nothing, or more than you hold")
 text_of_stock_rule stock.PoolFull =
     rule_text (codes "S4")
-    (codes "it would bring the pool over five shares of the company")
+    (codes "it would leave more than half the company's shares in the pool")
 text_of_stock_rule stock.PresidentMustStay =
     rule_text (codes "S5")
-    (codes "you preside, would keep under two shares, and nobody else has two to take the president's "
-    ++ codes "certificate; or a RAISE would move the presidency of the company that operates")
+    (codes "you preside, would be left with fewer than two shares, and nobody else has two to take the "
+    ++ codes "president's certificate; or a RAISE would move the presidency of the company that operates")
 text_of_stock_rule stock.SoldInRound = rule_text (codes "S6") (codes "you have sold shares of the company in this round")
 text_of_stock_rule stock.NoneThere = rule_text (codes "S7") (codes "that place has no share left")
 text_of_stock_rule stock.NoParValue = rule_text (codes "S8") (codes "it names no par value")
 text_of_stock_rule stock.WrongStart =
     rule_text (codes "S9")
-    (codes "it starts a company that is started, or buys or sells of one that is not")
+    (codes "it starts a company that is started, or trades shares of one not yet started")
 text_of_stock_rule stock.CashTooSmall = rule_text (codes "S10") (codes "it costs more than your cash")
 text_of_stock_rule stock.CertificateLimit =
     rule_text (codes "S11")
     (codes "you hold as many certificates as you may, and this one counts")
 text_of_stock_rule stock.OverSixShares =
     rule_text (codes "S12")
-    (codes "you would hold over six shares, outside the orange and the brown zone")
+    (codes "you would hold more than six shares, outside the orange and the brown zone")
 text_of_stock_rule stock.BoughtBefore = rule_text (codes "S13") (codes "you have bought in this turn")
 text_of_stock_rule stock.NoExchange =
     rule_text (codes "S14")
-    (codes "you do not own MH, or no share of NYC is left, or you have six")
+    (codes "you do not own MH, no share of NYC is left, or you hold six and its token is in neither the "
+    ++ codes "orange nor the brown zone")
 
 -- the code of a rule of stock rounds
 abbrev pub code_of_stock_rule : StockRule → List ℕ
@@ -130,7 +131,7 @@ abbrev pub text_of_private_rule : PrivateRule → RuleText
 text_of_private_rule private_rule.TooEarly = rule_text (codes "P1") (codes "it comes before phase 3")
 text_of_private_rule private_rule.WrongPrice =
     rule_text (codes "P2")
-    (codes "the price is under half the face value or over twice that")
+    (codes "the price is less than half the face value or more than twice it")
 text_of_private_rule private_rule.NoConsent =
     rule_text (codes "P3")
     (codes "no player owns it, or its owner has not consented to exactly this sale in this round; or an "
@@ -158,7 +159,7 @@ text_of_refusal (refusal.Train rule) = text_of_train_rule rule
 text_of_refusal (refusal.Private rule) = text_of_private_rule rule
 text_of_refusal refusal.Condition =
     rule_text (codes "I1")
-    (codes "the condition does not hold as the line is taken up, or, of a standing line, as the "
+    (codes "the condition does not hold when the line is reached, or, for a standing line, when the "
     ++ codes "round begins")
 
 -- the code of a rule of play

@@ -74,7 +74,7 @@ pub enum Event {
     },
     /// A seat's turn ends without an act.
     Passes(Seat),
-    /// This many lines of a seat's sheet were not taken up in the round.
+    /// This many lines of a seat's sheet were not reached in the round.
     Left {
         seat: Seat,
         lines: u32,

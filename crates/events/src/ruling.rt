@@ -69,8 +69,8 @@ impl Refusal {
             Refusal::Train(rule) => rule.sentence(),
             Refusal::Private(rule) => rule.sentence(),
             Refusal::Condition => {
-                "the condition does not hold as the line is taken up, or, of a standing line, \
-                    as the round begins"
+                "the condition does not hold when the line is reached, or, for a standing line, \
+                    when the round begins"
             }
         }
     }
@@ -122,7 +122,7 @@ pub enum OpeningRule {
     Sold,
     /// A3: it buys a private that is not the cheapest unsold.
     NotCheapest,
-    /// A4: it bids under 5 above the face value, or under 5 above an earlier bid.
+    /// A4: it bids less than 5 above the face value, or less than 5 above an earlier bid.
     BidTooLow,
     /// A5: it costs more than your cash minus your bids on other privates.
     CashTooSmall,
@@ -144,7 +144,8 @@ static OPENING_RULES: [RuleRow<OpeningRule>; OpeningRule::BidForCheapest as usiz
         "nothing: it has gone to somebody else, or to you", Some("A2-sold"),
     NotCheapest: "A3", "it buys a private that is not the cheapest unsold",
         "bid on it", Some("A3-not-the-cheapest"),
-    BidTooLow: "A4", "it bids under 5 above the face value, or under 5 above an earlier bid",
+    BidTooLow: "A4",
+        "it bids less than 5 above the face value, or less than 5 above an earlier bid",
         "bid at least 5 above both", Some("A4-under-5-above-a-bid"),
     CashTooSmall: "A5", "it costs more than your cash less your bids on other privates",
         "bid less elsewhere: bids tie cash until the private is sold",
@@ -211,10 +212,11 @@ pub enum StockRule {
     SaleInFirstRound,
     /// S3: it sells nothing, or more than you hold.
     NotHeld,
-    /// S4: it would bring the pool over five shares of the company.
+    /// S4: it would leave more than half the company's shares in the pool.
     PoolFull,
-    /// S5: you preside, would keep under two shares, and nobody else has two to take the
-    /// president's certificate; or a RAISE would move the presidency of the company that operates.
+    /// S5: you preside, would be left with fewer than two shares, and nobody else has two to take
+    /// the president's certificate; or a RAISE would move the presidency of the company that
+    /// operates.
     PresidentMustStay,
     /// S6: you have sold shares of the company in this round.
     SoldInRound,
@@ -228,11 +230,12 @@ pub enum StockRule {
     CashTooSmall,
     /// S11: you hold as many certificates as you may, and this one counts.
     CertificateLimit,
-    /// S12: you would hold over six shares, outside the orange and the brown zone.
+    /// S12: you would hold more than six shares, outside the orange and the brown zone.
     OverSixShares,
     /// S13: you have bought in this turn.
     BoughtBefore,
-    /// S14: you do not own MH, or no share of NYC is left, or you have six.
+    /// S14: you do not own MH, no share of NYC is left, or you hold six and its token is in neither
+    /// the orange nor the brown zone.
     NoExchange,
 }
 
@@ -241,17 +244,17 @@ static STOCK_RULES: [RuleRow<StockRule>; StockRule::NoExchange as usize + 1] =
     rule_rows! { StockRule
     NotOfStock: "S1",
         "the line is not PAR, BUY of a share, SELL or EXCHANGE; or the RAISE is not needed",
-        "write one of these; of RAISE nothing: no more money was needed",
+        "write one of these; for RAISE, do nothing: no more money was needed",
         Some("S1-not-a-stock-order"),
     SaleInFirstRound: "S2", "it sells in SR1",
         "sell from SR2 on", Some("S2-sale-in-the-first-stock-round"),
     NotHeld: "S3", "it sells nothing, or more than you hold",
         "sell at most what the statement says that you hold", Some("S3-more-than-held"),
-    PoolFull: "S4", "it would bring the pool over five shares of the company",
+    PoolFull: "S4", "it would leave more than half the company's shares in the pool",
         "sell fewer, or later, once somebody has bought from the pool", Some("S4-pool-over-five"),
     PresidentMustStay: "S5",
-        "you preside, would keep under two shares, and nobody else has two to take the \
-        president's certificate; or a RAISE would move the presidency of the company that \
+        "you preside, would be left with fewer than two shares, and nobody else has two to take \
+        the president's certificate; or a RAISE would move the presidency of the company that \
         operates",
         "sell fewer", Some("S5-presidents-certificate"),
     SoldInRound: "S6", "you have sold shares of the company in this round",
@@ -260,20 +263,24 @@ static STOCK_RULES: [RuleRow<StockRule>; StockRule::NoExchange as usize + 1] =
         "buy from the other place: IPO or POOL", Some("S7-none-in-the-pool"),
     NoParValue: "S8", "it names no par value",
         "name 100, 90, 82, 76, 71 or 67", Some("S8-no-par-value"),
-    WrongStart: "S9", "it starts a company that is started, or buys or sells of one that is not",
+    WrongStart: "S9",
+        "it starts a company that is started, or trades shares of one not yet started",
         "start with PAR, and buy from then on", Some("S9-started-or-not"),
     CashTooSmall: "S10", "it costs more than your cash",
         "sell before, or buy what is cheaper", Some("S10-cash-too-small"),
     CertificateLimit: "S11", "you hold as many certificates as you may, and this one counts",
-        "sell before, or buy of a company in a coloured zone", Some("S11-certificate-limit"),
-    OverSixShares: "S12", "you would hold over six shares, outside the orange and the brown zone",
-        "buy of another company", Some("S12-over-six-shares"),
+        "sell before, or buy shares of a company in a coloured zone", Some("S11-certificate-limit"),
+    OverSixShares: "S12",
+        "you would hold more than six shares, outside the orange and the brown zone",
+        "buy another company's shares", Some("S12-over-six-shares"),
     BoughtBefore: "S13", "you have bought in this turn",
         "write it below the next TURN; only in the brown zone several shares of one company may \
         be bought",
         Some("S13-second-purchase"),
-    NoExchange: "S14", "you do not own MH, or no share of NYC is left, or you have six",
-        "nothing; where you have six, sell one before", Some("S14-who-may-exchange"),
+    NoExchange: "S14",
+        "you do not own MH, no share of NYC is left, or you hold six and its token is in neither \
+        the orange nor the brown zone",
+        "nothing; if you hold six, sell one first", Some("S14-who-may-exchange"),
 };
 
 impl StockRule {
@@ -405,7 +412,7 @@ static TRAIN_RULES: [RuleRow<TrainRule>; TrainRule::NoDiscard as usize + 1] = ru
     TrainLimit: "T2", "the company has as many trains as it may",
         "have another company buy one, or trade one in for a D", Some("T2-train-limit"),
     CashTooSmall: "T3", "it costs more than the company's cash",
-        "withhold before, or buy of another company", Some("T3-cash-too-small"),
+        "withhold before, or buy from another company", Some("T3-cash-too-small"),
     NoConsent: "T4",
         "who sells has not consented to exactly this sale in this round, or the price is 0; or \
         an OFFER is at 0, or not of the seller's president",
@@ -468,7 +475,7 @@ impl Printed for TrainRule {
 pub enum PrivateRule {
     /// P1: it comes before phase 3.
     TooEarly,
-    /// P2: the price is under half the face value or over twice that.
+    /// P2: the price is less than half the face value or more than twice it.
     WrongPrice,
     /// P3: no player owns it, or its owner has not consented to exactly this sale in this round; or
     /// an OFFER is not by its owner.
@@ -484,7 +491,7 @@ static PRIVATE_RULES: [RuleRow<PrivateRule>; PrivateRule::CashTooSmall as usize 
     rule_rows! { PrivateRule
     TooEarly: "P1", "it comes before phase 3",
         "wait for phase 3", Some("P1-before-phase-3"),
-    WrongPrice: "P2", "the price is under half the face value or over twice that",
+    WrongPrice: "P2", "the price is less than half the face value or more than twice it",
         "name one between them", Some("P2-half-to-twice-the-face"),
     NoConsent: "P3",
         "no player owns it, or its owner has not consented to exactly this sale in this round; \
@@ -536,7 +543,7 @@ impl Printed for PrivateRule {
     }
 }
 
-/// What became of a line that was taken up.
+/// What became of a line that was reached.
 #[derive(Drop)]
 pub enum Ruling {
     /// The order was carried out; its condition held, if it has one.

@@ -1,6 +1,6 @@
 -- Events that follow from the list alone. BROKEN follows the payment that leaves the bank with 0 or
 -- less, once in a game. The privates pay their revenues in roster order. LEFT says how many lines
--- of a seat's sheet were not taken up, if there are any.
+-- of a seat's sheet were not reached, if there are any.
 use Rattle.std.specs.Prelude.{ℕ, ◌==◌, Bool, ◌&&◌, not, if◌then◌else◌, List, [], ◌∷◌, ◌++◌, Option, Some, None, pos}
 use lib.Signed.{le_z}
 use Rattle.events.specs.declared.event.Event.{Event}

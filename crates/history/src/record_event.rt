@@ -71,7 +71,7 @@ impl History {
         self.record_broken()
     }
 
-    /// Records that this many lines of a seat's sheet were not taken up, if there are any. Fails
+    /// Records that this many lines of a seat's sheet were not reached, if there are any. Fails
     /// only if allocation fails, which leaves the list unchanged.
     pub fn record_left(&mut self, seat: Seat, lines: u32) -> Result<(), AllocError>
         requires { IsSound self.old }

@@ -14,17 +14,16 @@ abbrev pub text_of_lay_rule : LayRule → RuleText
 text_of_lay_rule lay_rule.StepUsed = rule_text (codes "L1") (codes "the lay of the turn is used, or its step is past")
 text_of_lay_rule lay_rule.GreyOrRed = rule_text (codes "L2") (codes "the hex is grey or red")
 text_of_lay_rule lay_rule.NoneLeft = rule_text (codes "L3") (codes "no such tile is left")
-text_of_lay_rule lay_rule.ColourClosed = rule_text (codes "L4") (codes "the colour has not come yet")
+text_of_lay_rule lay_rule.ColourClosed = rule_text (codes "L4") (codes "the colour isn't available yet")
 text_of_lay_rule lay_rule.WrongTile =
     rule_text (codes "L5")
-    (codes "the tile is not of the hex's next colour or kind; or SWAP stands where there are not two "
-    ++ codes "stops")
-text_of_lay_rule lay_rule.TrackLost = rule_text (codes "L6") (codes "track that the hex has would be lost")
+    (codes "the tile is not of the hex's next colour or kind; or SWAP is on a hex without two stops")
+text_of_lay_rule lay_rule.TrackLost = rule_text (codes "L6") (codes "existing track would be lost")
 text_of_lay_rule lay_rule.BadSide =
     rule_text (codes "L7")
     (codes "track would lead off the map, over a closed border, or to a grey or red hex that has none "
     ++ codes "there")
-text_of_lay_rule lay_rule.Blocked = rule_text (codes "L8") (codes "a player owns the private of that hex")
+text_of_lay_rule lay_rule.Blocked = rule_text (codes "L8") (codes "a player's private blocks the hex")
 text_of_lay_rule lay_rule.NotReached =
     rule_text (codes "L9")
     (codes "the company reaches neither the tile's track nor a stop of the hex")
@@ -64,12 +63,11 @@ abbrev pub text_of_run_rule : RunRule → RuleText
 text_of_run_rule run_rule.StepUsed = rule_text (codes "R1") (codes "the step of the runs is past")
 text_of_run_rule run_rule.NoTrain =
     rule_text (codes "R2")
-    (codes "no train of the kind is left that has not run; of RUN BEST: the company has no train, or "
-    ++ codes "one has run")
+    (codes "all trains of that kind have run; for RUN BEST: the company has no train, or one has run")
 text_of_run_rule run_rule.NoTrack = rule_text (codes "R3") (codes "there is no such track, or an end is not a stop")
 text_of_run_rule run_rule.WrongNumber =
     rule_text (codes "R4")
-    (codes "it visits under two stops, or more than the train may")
+    (codes "it visits fewer than two stops, or more than the train may")
 text_of_run_rule run_rule.StopTwice = rule_text (codes "R5") (codes "it visits a stop twice")
 text_of_run_rule run_rule.BorderTwice =
     rule_text (codes "R6")

@@ -21,12 +21,12 @@ pub enum LayRule {
     ColourClosed,
     /// L5: the tile is not of the hex's next colour or kind; or SWAP is used without two stops.
     WrongTile,
-    /// L6: track that the hex has would be lost.
+    /// L6: existing track would be lost.
     TrackLost,
     /// L7: track would lead off the map, over a closed border, or to a grey or red hex that has
     /// none there.
     BadSide,
-    /// L8: a player owns the private of that hex.
+    /// L8: a player's private blocks the hex.
     Blocked,
     /// L9: the company reaches neither the tile's track nor a stop of the hex.
     NotReached,
@@ -42,19 +42,18 @@ static LAY_RULES: [RuleRow<LayRule>; LayRule::CashTooSmall as usize + 1] = rule_
         "lay elsewhere", Some("L2-grey-or-red"),
     NoneLeft: "L3", "no such tile is left",
         "take another number with such track", Some("L3-none-left"),
-    ColourClosed: "L4", "the colour has not come yet",
+    ColourClosed: "L4", "the colour isn't available yet",
         "wait for phase 3 (green) or 5 (brown)", Some("L4-colour-closed"),
     WrongTile: "L5",
-        "the tile is not of the hex's next colour or kind; or SWAP stands where there are not \
-        two stops",
+        "the tile is not of the hex's next colour or kind; or SWAP is on a hex without two stops",
         "look up the hex and the tile in `map.md`", Some("L5-kind-colour-or-swap"),
-    TrackLost: "L6", "track that the hex has would be lost",
+    TrackLost: "L6", "existing track would be lost",
         "turn the tile, or take another", Some("L6-old-track-lost"),
     BadSide: "L7",
         "track would lead off the map, over a closed border, or to a grey or red hex that has \
         none there",
         "turn the tile", Some("L7-bad-side"),
-    Blocked: "L8", "a player owns the private of that hex",
+    Blocked: "L8", "a player's private blocks the hex",
         "buy the private for a company, or wait for phase 5", Some("L8-on-a-privates-hex"),
     NotReached: "L9", "the company reaches neither the tile's track nor a stop of the hex",
         "lay nearer to what it reaches, and not past a full city", Some("L9-not-reached"),
@@ -200,12 +199,12 @@ impl Display for TokenRule {
 pub enum RunRule {
     /// R1: the step of the runs is past.
     StepUsed,
-    /// R2: no train of the kind is left that has not run; of RUN BEST: the company has no train, or
-    /// one has run.
+    /// R2: all trains of that kind have run; for RUN BEST: the company has no train, or one has
+    /// run.
     NoTrain,
     /// R3: there is no such track, or an end is no stop.
     NoTrack,
-    /// R4: it visits under two stops, or more than the train may.
+    /// R4: it visits fewer than two stops, or more than the train may.
     WrongNumber,
     /// R5: it visits a stop twice.
     StopTwice,
@@ -224,12 +223,11 @@ static RUN_RULES: [RuleRow<RunRule>; RunRule::RedInside as usize + 1] = rule_row
     StepUsed: "R1", "the step of the runs is past",
         "write RUN before PAY, WITHHOLD and TRAIN", Some("R1-after-the-pay-step"),
     NoTrain: "R2",
-        "no train of the kind is left that has not run; of RUN BEST: the company has no train, \
-        or one has run",
+        "all trains of that kind have run; for RUN BEST: the company has no train, or one has run",
         "write one RUN a train, or RUN BEST alone", Some("R2-no-unused-train"),
     NoTrack: "R3", "there is no such track, or an end is not a stop",
         "name every hex on the way; the ends by their stops, `H12.0`", Some("R3-no-such-track"),
-    WrongNumber: "R4", "it visits under two stops, or more than the train may",
+    WrongNumber: "R4", "it visits fewer than two stops, or more than the train may",
         "take a shorter way, or another train", Some("R4-too-many-stops"),
     StopTwice: "R5", "it visits a stop twice",
         "go another way", Some("R5-a-stop-twice"),

@@ -3,7 +3,7 @@
 //! At its first turn a company places its home token. Then its president's orders for it are ruled.
 //! It may lay a tile, place a token, run its trains, by RUN orders or by RUN BEST, pay out or
 //! withhold what they earned, and buy trains and privates. A line may have a condition, which is
-//! checked when the line is taken up, before it has any effect. The steps of the turn have an
+//! checked when the line is reached, before it has any effect. The steps of the turn have an
 //! order. An obeyed order moves the turn on, and an order for an earlier step is refused. A company
 //! that has neither paid nor withheld withholds by itself before it buys trains, and at the end of
 //! its turn; its token on the chart then moves left. Finally, a company without a train that could

@@ -8,7 +8,7 @@ use Rattle.tables.specs.RuleTexts.{RuleText, rule_text}
 
 -- the text of a fault
 abbrev pub text_of : Fault → RuleText
-text_of TooLong = rule_text (codes "G1") (codes "the line has over 1,024 bytes, its comment counted")
+text_of TooLong = rule_text (codes "G1") (codes "the line has more than 1,024 bytes, its comment counted")
 text_of StrayByte =
     rule_text (codes "G2")
     (codes "a byte before the comment is not printable ASCII (for example a tab or an accented letter)")
@@ -19,7 +19,7 @@ text_of WrongWords =
     rule_text (codes "G4")
     (codes "the words after the first do not fit any of its forms; after IF, they are not a condition "
     ++ codes "followed by an order")
-text_of NumberTooLarge = rule_text (codes "G5") (codes "a number is over 99,999")
+text_of NumberTooLarge = rule_text (codes "G5") (codes "a number is more than 99,999")
 text_of OutOfPlace =
     rule_text (codes "G6")
     (codes "the order is not allowed where it stands, with or without a condition, or the line belongs "

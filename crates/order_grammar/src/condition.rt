@@ -33,7 +33,7 @@ pub enum Version {
     Two,
 }
 
-/// What an order depends on. It is checked when the order's line is taken up.
+/// What an order depends on. It is checked when the line is reached.
 #[derive(Clone, Copy, Debug, PartialEq, Eq)]
 pub enum Condition {
     /// `IF PRICE co >= n`: the company has a price, which is at least this many dollars.

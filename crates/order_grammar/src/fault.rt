@@ -11,7 +11,7 @@ use thiserror::Error;
 /// certificate a line may have up to 2,048 bytes.
 #[derive(Clone, Copy, Debug, PartialEq, Eq, Drop, Error)]
 pub enum Fault {
-    /// G1: the line has over 1,024 bytes, its comment counted.
+    /// G1: the line has more than 1,024 bytes, its comment counted.
     TooLong,
     /// G2: a byte before its comment is not printable ASCII: a tab, a hard space, an accent.
     StrayByte,
@@ -20,7 +20,7 @@ pub enum Fault {
     /// G4: the words after the first fit no form; or after IF they are not a condition followed by
     /// an order.
     WrongWords,
-    /// G5: a number is over 99,999.
+    /// G5: a number is more than 99,999.
     NumberTooLarge,
     /// G6: the order is out of place, with or without a condition, or the line is in no sheet.
     OutOfPlace,
@@ -32,7 +32,7 @@ pub enum Fault {
 
 /// The faults of a line, in the order in which they apply.
 static FAULTS: [RuleRow<Fault>; Fault::PastLastLine as usize + 1] = rule_rows! { Fault
-    TooLong: "G1", "the line has over 1,024 bytes, its comment counted",
+    TooLong: "G1", "the line has more than 1,024 bytes, its comment counted",
         "write it shorter", Some("G1-line-of-1025-bytes"),
     StrayByte: "G2",
         "a byte before the comment is not printable ASCII (for example a tab or an accented \
@@ -47,7 +47,7 @@ static FAULTS: [RuleRow<Fault>; Fault::PastLastLine as usize + 1] = rule_rows! {
         "the words after the first do not fit any of its forms; after IF, they are not a \
         condition followed by an order",
         "compare them with the table of forms", Some("G4-wrong-words"),
-    NumberTooLarge: "G5", "a number is over 99,999",
+    NumberTooLarge: "G5", "a number is more than 99,999",
         "write a smaller one", Some("G5-number-over-99999"),
     OutOfPlace: "G6",
         "the order is not allowed where it stands, with or without a condition, or the line \

@@ -1,5 +1,5 @@
 -- What keeps an opening round under way, as a round of turns needs it: the ROUND event, a pass, a
--- count of lines that were not taken up.
+-- count of lines that were not reached.
 use Rattle.std.proofs.Common.{refl}
 use Rattle.std.specs.Prelude.{ℕ}
 use Rattle.events.specs.declared.event.Event.TheVariants as event
@@ -25,7 +25,7 @@ pass_keeps_underway game seat underway sound =
     event_underway game (with_event game (event.Passes seat)) (event.Passes seat) refl (λ its other. refl) refl sound
     underway
 
--- a count of lines that were not taken up keeps it
+-- a count of lines that were not reached keeps it
 pub leaves : (game : Game) (seat : Seat) (lines : ℕ) → IsUnderway game → IsSound (left_recorded seat lines game)
     → IsUnderway (left_recorded seat lines game)
 leaves game seat lines underway sound = left_underway game (left_recorded seat lines game) seat lines refl sound

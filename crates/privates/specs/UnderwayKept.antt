@@ -93,7 +93,7 @@ event_underway game new event no_square silent recorded sound before =
           waiting_silent game.events event no_square silent before.waiting;
     })
 
--- what was not taken up
+-- what was not reached
 left_cases : (b : Bool) (game : Game) (seat : Seat) (lines : ℕ)
     → IsSound (record { seats = game.seats; events = game.events ++ (if b then [] else event.Left seat lines ∷ []) })
     → IsUnderway game → IsUnderway (record {

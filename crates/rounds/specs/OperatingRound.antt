@@ -1,6 +1,6 @@
 -- An operating round, from a list to a list: the ROUND event, the standing lines seat by seat, and
 -- the revenues of the privates in roster order. Then the companies take their turns, and at the end
--- it says how many lines of each sheet were not taken up. The next company is the first in
+-- it says how many lines of each sheet were not reached. The next company is the first in
 -- operating order, as that is at the time, of those that have not operated in the round. The round
 -- is over once there is none, or a president is bankrupt.
 use Rattle.std.specs.Prelude.{◌≡◌, ℕ, ◌-◌, ◌≤◌, true, false, List, [], ◌∷◌, ◌++◌, length, Some, None}
@@ -45,7 +45,7 @@ pub record TurnsLead (file : List ℕ) (round : Round) (old new : Game) : Type 0
   pub turns : TakeTurns file round companies old new
   pub over_then : next_company new.events ≡ None
 
--- the lines of a seat's sheet that were not taken up; heads of companies' orders do not count
+-- the lines of a seat's sheet that were not reached; heads of companies' orders do not count
 abbrev pub lines_left : List ℕ → Round → List Event → Seat → ℕ
 lines_left file round events seat = lines_in (parts_for file round seat.0) - rulings_in_round events seat
 

@@ -118,7 +118,7 @@ fn take_turn<R: Runner>(
     }
 }
 
-/// Records how many lines of each sheet were not taken up; heads do not count.
+/// Records how many lines of each sheet were not reached; heads do not count.
 fn record_all_left(history: &mut History, sheets: &Sheets, round: Round) -> Result<(), AllocError>
     requires { IsSound history.old }
     ensures after { OnOk result (history.new ≡ with_events history.old
@@ -135,7 +135,7 @@ fn record_all_left(history: &mut History, sheets: &Sheets, round: Round) -> Resu
     Ok(())
 }
 
-/// Records how many lines of a seat's sheet were not taken up.
+/// Records how many lines of a seat's sheet were not reached.
 fn record_left(
     history: &mut History,
     sheets: &Sheets,

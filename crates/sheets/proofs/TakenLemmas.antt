@@ -1,5 +1,5 @@
 -- What rounds take up of their sheets, seat by seat: the standing lines, and what is said of lines
--- that were not taken up.
+-- that were not reached.
 use Rattle.std.proofs.Common.{◌≡◌, ℕ, suc, ◌+◌, ◌-◌, ◌<◌, List, [], ◌∷◌, ◌++◌, length, map, zero-add, sym, ap, ◌∙◌}
 use Rattle.std.proofs.Common.{append_assoc, arith}
 use Rattle.std.specs.List.{range_with_len}

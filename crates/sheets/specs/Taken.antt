@@ -1,6 +1,6 @@
 -- What every round takes up of its sheets, whatever becomes of a line. First come the lines that
 -- are before the first head of each sheet, seat by seat, then the written turns, turn by turn. At
--- the end it says how many lines were not taken up.
+-- the end it says how many lines were not reached.
 use Rattle.std.specs.Prelude.{ℕ, ◌+◌, List, [], ◌∷◌, map}
 use Rattle.std.specs.List.{range_with_len}
 use Rattle.sheets.specs.Part.{Numbered, written_turns_of, lines_in_written_turns, parts_for}
@@ -34,7 +34,7 @@ written_turns_for seats file round = map (λ seat. written_turns_of (parts_for f
 abbrev pub in_play : {State : Type 0} → State → ℕ → ℕ → List (List (List Numbered)) → InPlay State Numbered
 in_play state seat passes written_turns = record { now = state; seat = seat; passes = passes; written_turns = written_turns }
 
--- what is said of the lines that were not taken up, seat by seat, with this said before the rest
+-- what is said of the lines that were not reached, seat by seat, with this said before the rest
 abbrev pub said_of_left : {Said : Type 0} → (Seat → ℕ → List Said → List Said) → ℕ → List (List (List Numbered))
     → List Said
 said_of_left say seat [] = []

@@ -13,7 +13,7 @@ use order_grammar::{Order, begins_with_word};
 use std::marker::Model;
 use tables::{Company, Round};
 
-/// The rest of a sheet that is not taken up yet: the lines before the next head, and then the
+/// The rest of a sheet that is not reached yet: the lines before the next head, and then the
 /// written turns, or the companies' orders, each with its head.
 ///
 /// In the sheet of an opening or a stock round a TURN line up to line `LINES_MOST` is a head, in

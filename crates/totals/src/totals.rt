@@ -154,7 +154,7 @@ impl Totals {
     }
 }
 
-/// Returns whether an event only rules a line, lets a seat pass, or counts lines not taken up.
+/// Returns whether an event only rules a line, lets a seat pass, or counts lines not reached.
 fn says_little(event: &Event) -> bool
     ensures { result ≡ says_little event.now }
 {

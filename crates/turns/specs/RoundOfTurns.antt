@@ -79,7 +79,7 @@ opened rules seats file round events =
     (after_standing rules file round (events ++ event.Round round ∷ []) (range_with_len 0 seats))
     (priority_of seats events).0 0 (written_turns_for seats file round)
 
--- the lines that were not taken up, seat by seat
+-- the lines that were not reached, seat by seat
 abbrev pub left_from : ℕ → List (List (List Numbered)) → List Event
 left_from seat written_turns = said_of_left with_left seat written_turns
 

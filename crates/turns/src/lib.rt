@@ -1,6 +1,6 @@
 //! Rounds of turns, such as the opening and the stock rounds. This crate says how a round begins,
-//! how the sheets' lines are taken up, whose turn it is, who passes, when the turns are over, and
-//! what is recorded of lines that were not taken up.
+//! how the lines of sheets are reached, whose turn it is, who passes, when the turns are over, and
+//! what is recorded of lines that were not reached.
 //!
 //! Each kind of round has its own rules: what a line does, what counts as acting, what else ends
 //! the turns and what follows them. A type with the trait `TurnRules` has these rules.

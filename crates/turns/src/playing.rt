@@ -1,5 +1,5 @@
 //! A whole round of turns, from its ROUND event through the turns of the seats to the count of
-//! lines that were not taken up.
+//! lines that were not reached.
 ghost use Rattle.std.specs.Prelude.{◌≡◌, ◌<◌, ◌≤◌, ◌++◌, [], All, IfOk, OnOk, length, map};
 ghost use Rattle.std.specs.List.{range_with_len};
 ghost use Rattle.events.specs.declared.event.Event.TheVariants as event;
@@ -210,7 +210,7 @@ pub fn pass<T: TurnRules>(_rules: &T, history: &mut History, seat: Seat) -> Resu
     Ok(())
 }
 
-/// Records how many lines of each sheet were not taken up; heads of written turns do not count.
+/// Records how many lines of each sheet were not reached; heads of written turns do not count.
 fn record_all_left<T: TurnRules>(
     rules: &T,
     history: &mut History,
@@ -229,7 +229,7 @@ fn record_all_left<T: TurnRules>(
     Ok(())
 }
 
-/// Records how many lines of a seat's sheet were not taken up.
+/// Records how many lines of a seat's sheet were not reached.
 fn record_seat_left<T: TurnRules>(
     _rules: &T,
     history: &mut History,

@@ -99,7 +99,7 @@ pub trait TurnRules {
         → IsSound (with_event game (event.Passes seat))
         → holds (with_event game (event.Passes seat)) };
 
-    /// So does the count of lines that were not taken up.
+    /// So does the count of lines that were not reached.
     ghost leaves: { (game : Game) (seat : Seat) (lines : ℕ) → holds game
         → IsSound (left_recorded seat lines game) → holds (left_recorded seat lines game) };
 
