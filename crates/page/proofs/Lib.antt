@@ -1,1 +1,2 @@
-pub mod RevenueLemmas
+mod DueLemmas
+mod RevenueLemmas

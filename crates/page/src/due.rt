@@ -16,7 +16,7 @@ pub fn due_shown(alloc: Global, due: &str) -> Result<Vec<u8>, AllocError>
 }
 
 /// Returns the bytes that are shown of these.
-#[tactic(auto, using(std::proofs::lemmas::List::take_all))]
+#[tactic(auto, using(crate::proofs::DueLemmas::all_of, crate::proofs::DueLemmas::count_of))]
 fn cut(bytes: &[u8]) -> &[u8]
     ensures { result.now ≡ take 60 bytes.now }
 {
