@@ -1,2 +1,2 @@
 mod DueLemmas
-mod RevenueLemmas
+pub mod RevenueLemmas
