@@ -1,8 +1,7 @@
 -- A round's part of the report of a file.
 use Rattle.std.proofs.Common.{◌≡◌, ℕ, true, List, Option}
-use Rattle.desk_base.specs.Refusal.{HasNone, IsOfGame}
-use Rattle.desk_round.specs.RoundPart.{HasNoText, IsRoundFault, IsRoundPart}
-use Rattle.desk_round.specs.RoundPart.{is_played, round_asked, text_of_round}
+use Rattle.desk_base.specs.Played.{IsRoundFault, is_played, round_asked}
+use Rattle.desk_round.specs.RoundPart.{HasNoText, IsRoundPart, text_of_round}
 use Rattle.desk_base.specs.declared.fault.DeskFault.{DeskFault}
 use Rattle.desk_base.specs.declared.fault.DeskFault.TheVariants.{File, Round, Memory}
 use Rattle.rounds.specs.Play.{IsTheGame, Played}
@@ -25,17 +24,3 @@ no_part_of_file Round played asked file of_file game none =
     record { played = played; of_file = record { of_file = of_file; game = game }; none = none }
 no_part_of_file Memory played asked file of_file game none = tt
 no_part_of_file (File fault) played asked file of_file game none = absurd none
-
--- where a file has no sheets
-pub no_part_where_it_fails : (fault : DeskFault) (asked : Option the_round.Round) (file : List ℕ) → HasNone fault file
-    → IsRoundFault file asked fault
-no_part_where_it_fails Round asked file none = absurd none
-no_part_where_it_fails Memory asked file none = none
-no_part_where_it_fails (File fault) asked file none = none
-
--- a round that is not there is no fault of a file
-pub of_game : (fault : DeskFault) (played : Played) (asked : Option the_round.Round) → HasNoText played asked fault
-    → IsOfGame fault
-of_game Round played asked none = tt
-of_game Memory played asked none = tt
-of_game (File fault) played asked none = absurd none
