@@ -77,6 +77,12 @@ abbrev pub IsMomentFault : List ℕ → Moment → DeskFault → Type 0
 IsMomentFault file moment desk.Round = LacksMoment file moment
 IsMomentFault file moment fault = HasNone fault file
 
+-- no round has begun by these events, for this fault; or allocation failed
+abbrev pub HasNoRound : List Event → DeskFault → Type 0
+HasNoRound events desk.Round = round_of events ≡ None
+HasNoRound events desk.Memory = ⊤
+HasNoRound events (desk.File fault) = ⊥
+
 -- the moment after a round, or the last, if none is named
 abbrev pub moment_after : Option Round → Moment
 moment_after None = Last
