@@ -1,14 +1,13 @@
 -- The rows of RAISE lines. Where a company must buy a train, its president is told what becomes of the order to sell from one
 -- share of a company to all that they have of it, company by company, each as the first RAISE of the turn. It brings the
 -- market price for each share.
-use Rattle.std.specs.Prelude.{ℕ, Bool, true, if◌then◌else◌, List, [], ◌∷◌, Option, Some, None, ℤ, pos}
-use Rattle.std.specs.Int.Signed.{le_z, lt_z}
+use Rattle.std.specs.Prelude.{ℕ, Bool, true, if◌then◌else◌, List, [], ◌∷◌, Option, None, pos}
+use Rattle.std.specs.Int.Signed.{le_z}
 use Rattle.std.specs.List.{flat_map}
 use Rattle.certs.specs.declared.share_deal.Sale.{Sale}
 use Rattle.events.specs.declared.event.Event.{Event}
 use Rattle.events.specs.declared.event.Shareholder.TheVariants.{Seat as OfSeat}
-use Rattle.events.specs.declared.ruling.StockRule.{StockRule}
-use Rattle.forced_purchase.specs.Raise.{raise_judgement, raised_sale_judgement}
+use Rattle.forced_purchase.specs.Raise.{raise_judgement}
 use Rattle.forced_purchase.specs.declared.operator.Operator.{Operator}
 use Rattle.moves.specs.Deals.{brought_by, share_numbers}
 use Rattle.moves.specs.Rows.{answer_of, only_if}
@@ -46,17 +45,3 @@ raise_answer game by sale = answer_of (pos (brought_by game.events sale)) (raise
 -- its row
 abbrev pub raise_row : Game → Operator → Sale → Row
 raise_row game by sale = record { order = Raise sale.company sale.shares; answer = raise_answer game by sale }
-
--- what a sale to pay for a train brings, if this rule refuses it or none does
-abbrev pub price_if : Option StockRule → ℕ → Option ℤ
-price_if None price = Some (pos price)
-price_if (Some rule) price = None
-
--- of a sale in a game
-abbrev pub price_brought : Game → Operator → Sale → Option ℤ
-price_brought game by sale = price_if (raised_sale_judgement by game sale) (brought_by game.events sale)
-
--- the greater of two sums, if there is a second
-abbrev pub greater_of : ℤ → Option ℤ → ℤ
-greater_of most None = most
-greater_of most (Some sum) = if lt_z most sum then sum else most

@@ -1,23 +1,20 @@
 //! A train that a company must buy as its turn ends, as text: what it costs and who pays, what its
 //! president may sell for it, and what happens otherwise.
 
-ghost use Rattle.std.specs.Prelude.{◌≡◌};
-ghost use Rattle.desk_may.specs.RaiseRows.{greater_of, price_brought};
-
 use crate::may_line::push_may;
-use crate::raise_rows::{NUMBERS, raise_rows};
+use crate::raise_rows::raise_rows;
 use crate::until_then::{SAID, push_events};
-use certs::Sale;
 use desk_base::Piece::{Bytes, Column, Number, Words};
 use desk_base::{fill, push};
-use forced_purchase::{Operator, cheapest, falls_short, judge_raised_sale, lack};
+use desk_dues::raised_at_most;
+use forced_purchase::{Operator, cheapest, falls_short, lack};
 use foresight::{OrdersAhead, RoundAhead};
 use history::{History, Party, TrainSeller};
-use moves::{Answer, Row, brought_by};
+use moves::{Answer, Row};
 use report::name;
 use sheets::Sheets;
 use std::alloc::{AllocError, Global};
-use tables::{Company, Money};
+use tables::Money;
 
 /// When it is that a company must buy a train.
 #[derive(Clone, Copy)]
@@ -149,48 +146,8 @@ fn push_president(
     fill(
         out,
         ", has %, and can raise %\n",
-        &[free, Number(raised_at_most(history, by))],
+        &[free, Number(Money::from(raised_at_most(history, by)))],
     )
-}
-
-/// Returns the most that a president can raise by sales, in dollars: from each company the block of
-/// shares that brings the most.
-fn raised_at_most(history: &History, by: Operator) -> Money {
-    let mut sum: Money = 0;
-    for company in &Company::ALL {
-        sum = sum.saturating_add(most_raised(history, by, *company));
-    }
-    sum
-}
-
-/// Returns the most that a block of shares of a company brings, in dollars; 0 if each is refused.
-fn most_raised(history: &History, by: Operator, company: Company) -> Money {
-    let mut most = 0;
-    for shares in &NUMBERS {
-        let shares = *shares;
-        most = greater_of(most, price_brought(history, by, Sale { company, shares }));
-    }
-    most
-}
-
-/// Returns the greater of two sums, in dollars, if there is a second.
-fn greater_of(most: Money, brought: Option<Money>) -> Money
-    ensures { result ≡ greater_of most brought }
-{
-    match brought {
-        Some(sum) => { if most < sum { sum } else { most } }
-        None => most,
-    }
-}
-
-/// Returns what a sale to pay for a train brings, in dollars; `None` if a rule refuses it.
-fn price_brought(history: &History, by: Operator, sale: Sale) -> Option<Money>
-    ensures { result ≡ price_brought history.now by sale }
-{
-    match judge_raised_sale(history, by, sale) {
-        Some(_) => None,
-        None => Some(brought_by(&history.now(), sale)),
-    }
 }
 
 /// Adds each RAISE that would be obeyed as the first one, with what it brings.

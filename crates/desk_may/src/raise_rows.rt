@@ -11,7 +11,7 @@ use std::alloc::{AllocError, Global};
 use tables::{Amount, Company};
 
 /// The numbers of shares that a RAISE may name: a company has ten.
-pub(crate) const NUMBERS: [Amount; 10] = [1, 2, 3, 4, 5, 6, 7, 8, 9, 10];
+const NUMBERS: [Amount; 10] = [1, 2, 3, 4, 5, 6, 7, 8, 9, 10];
 
 /// Returns the outcome of each RAISE as the first one, when a train must be bought: for one share
 /// of a company up to all that the president has. Fails only if allocation fails.

@@ -12,11 +12,15 @@ use foresight::OrdersAhead;
 use history::{History, Party};
 use map_tables::{Lay, Place, laid_links};
 use moves::{Priced, lays, tokens};
+use purchases::sells;
 use std::alloc::{AllocError, Global};
-use tables::{Company, Kind, Money};
+use tables::{Company, Kind, Money, train};
 
 /// The column in front of the rotations, if no revenue is shown.
 const ROTATIONS: usize = 23;
+
+/// The column of the values of the head.
+const VALUES: usize = 18;
 
 /// The column of the price of a token.
 const PRICE: usize = 15;
@@ -76,11 +80,59 @@ fn push_turn<P: Progress>(
     }
     push_until_then(alloc, out, orders.sheets(), history, from, Some(company))?;
     push_means(out, history, company, kinds.as_slice())?;
+    if form.best && kinds.is_empty() {
+        return push_with_each(out, &mut earning);
+    }
     if form.best {
         return earning.push_table(out);
     }
     push_lays(out, history, earning.lays)?;
     Ok(push_tokens(out, earning.tokens)?)
+}
+
+/// Adds what a company without a train would earn after each lay and token with each train that the
+/// bank or the pool sells: a table for each.
+fn push_with_each<P: Progress>(
+    out: &mut Vec<u8>,
+    earning: &mut Earning<P>,
+) -> Result<(), MovesFault> {
+    let history = earning.trains.history;
+    for kind in &Kind::ALL {
+        let is_of_bank = sells(&history.now(), *kind);
+        if is_of_bank || history.trains(None, *kind) > 0 {
+            push_bought(out, history, earning.trains.company, *kind, is_of_bank)?;
+            earning.push_table_with(out, &[*kind])?;
+        }
+    }
+    Ok(())
+}
+
+/// Adds a train that a company could buy, what it costs, and what the company has.
+fn push_bought(
+    out: &mut Vec<u8>,
+    history: &History,
+    company: Company,
+    kind: Kind,
+    is_of_bank: bool,
+) -> Result<(), AllocError> {
+    let (price, cash) = (
+        Money::from(train(kind).price),
+        history.cash(Party::of_company(company)),
+    );
+    let seller = if is_of_bank { "BANK" } else { "POOL" };
+    let pieces = [
+        Words(kind.code()),
+        Column(VALUES),
+        Words(kind.code()),
+        Words(seller),
+        Number(price),
+        Number(cash),
+    ];
+    fill(out, "\nWITH A %%TRAIN % % for %; it has %", &pieces)?;
+    if cash < price {
+        fill(out, " and lacks %", &[Number(price.saturating_sub(cash))])?;
+    }
+    fill(out, "\n", &[])
 }
 
 /// Adds the lays, a line for each hex and tile.
