@@ -18,4 +18,4 @@ returns-in-Ok-Played-clause-behind c =
     is_behind c.sheets_are_numbered.ensures c.rounds_only_add.ensures c.args.sheets.now c.args.asked c.step.new.self
     (subst (λ (count : ℕ). 3 ≤ count) c.seats-players.ensures.value c.seats-players.ensures.least)
     (ap (λ (it : Underway). it.file) step.after ∙ before.1)
-    (one_step_on c.args.sheets.now c.in-Ok-Played.field-0-0 c.loop-play.play c.step.new.self before.2 step) last
+    (one_step_on c.args.sheets.now c.in-Ok-Played.field-0-0 c.loop-play.play c.step.new.self before.2.0 step) last
