@@ -1,0 +1,4 @@
+-- What the proofs of this crate share.
+pub mod Falls
+pub mod Loops
+pub mod Numbers
