@@ -2,3 +2,4 @@
 pub mod Falls
 pub mod Loops
 pub mod Numbers
+pub mod Colours
