@@ -21,4 +21,4 @@ pub use coming_kind::{NextKind, discarded_with, left_before, next_kind};
 pub use danger::{Danger, dangers};
 pub use fall::{Fall, next_fall};
 pub use raised::raised_at_most;
-pub use words::{NEXT_TRAIN, next_train_lines, push_danger, push_discards, push_next_kind};
+pub use words::{next_train_lines, next_train_text, push_danger, push_discards, push_next_kind};

@@ -12,8 +12,8 @@ use sheets::Sheets;
 use std::alloc::{AllocError, Global};
 use tables::{Company, Kind, Money};
 
-/// The heading above what the next train brings.
-pub const NEXT_TRAIN: &str = "WHAT THE NEXT TRAIN BRINGS";
+/// The heading above what the next train brings, with an empty line before it.
+const HEADING: &str = "\nWHAT THE NEXT TRAIN BRINGS\n";
 
 /// Numbers as words; a company or the bank has fewer trains.
 static NUMBERS: [&str; 7] = ["no", "one", "two", "three", "four", "five", "six"];
@@ -27,6 +27,22 @@ enum Word<'a> {
     Name(&'a [u8]),
     /// A number in digits.
     Number(Money),
+}
+
+/// Returns what `next_train_lines` returns below a heading, or nothing if that is empty. Fails only
+/// if allocation fails.
+pub fn next_train_text(
+    alloc: Global,
+    sheets: &Sheets,
+    history: &History,
+) -> Result<Vec<u8>, AllocError> {
+    let lines = next_train_lines(alloc, sheets, history)?;
+    let mut out = Vec::new(alloc);
+    if !lines.is_empty() {
+        out.extend_from_slice(HEADING.as_bytes())?;
+        out.extend_from_slice(lines.as_slice())?;
+    }
+    Ok(out)
 }
 
 /// Returns what the next train brings, a paragraph a line: what the first train of the next kind
