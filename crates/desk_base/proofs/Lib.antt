@@ -3,6 +3,7 @@ pub mod BestRuns
 pub mod ComingLemmas
 pub mod Laid
 pub mod MomentLemmas
+pub mod PlayedLemmas
 pub mod Refusals
 pub mod SetLemmas
 mod ReasonLemmas

@@ -1,11 +1,11 @@
 -- Where a play stands that has come from the start of its file: after the round that it played last, before what follows it.
 use Rattle.std.proofs.Common.{◌≡◌, ℕ, zero, suc, ◌<◌, ◌≤◌, Bool, true, false, if◌then◌else◌, List, Ok, Option, Some, None, refl, sym, ap, subst}
 use Rattle.std.proofs.Common.{◌∙◌, length, arith, true≢false}
-use Rattle.std.proofs.lemmas.Bool.{and_parts, eqb-true}
-use Rattle.std.specs.Prelude.{◌==◌}
+use Rattle.std.proofs.lemmas.Bool.{and_parts, eq-eqb, eqb-true}
+use Rattle.std.specs.Prelude.{◌==◌, ◌&&◌}
 use Rattle.desk_base.proofs.SetLemmas.{keeps_number, number_by_next, number_in_round}
 use Rattle.desk_base.specs.Moments.{IsAfterRound, IsBehind, IsFromStart, IsNumbered, ShowsBetween, StandsIn, end_shown}
-use Rattle.desk_base.specs.Moments.{is_last}
+use Rattle.desk_base.specs.Moments.{is_awaited, is_last}
 use Rattle.desk_base.specs.NextRound.{IsAfter}
 use Rattle.desk_base.specs.SetNumber.{end_after, number_in_set, set_of}
 use Rattle.desk_base.specs.declared.between_rounds.Stood.{Stood}
@@ -42,6 +42,13 @@ same_round_is (Operating m j) (Operating n k) same =
     let set : m ≡ n = eqb-true m n parts.0 in
     let number : j ≡ k = eqb-true j k parts.1 in
     ap (λ s. Operating s j) set ∙ ap (λ i. Operating n i) number
+
+-- a round is of its own kind and number
+pub same_round_self : (round : Round) → same_round round round ≡ true
+same_round_self (Opening n) = eq-eqb n n refl
+same_round_self (Stock n) = eq-eqb n n refl
+same_round_self (Operating n k) =
+    ap (λ (it : Bool). it && (k == k)) (eq-eqb n n refl) ∙ eq-eqb k k refl
 
 -- what holds of a play where its steps have led
 record HasLed (file : List ℕ) (play : Underway) (here : Between) : Type 0 where
@@ -191,9 +198,11 @@ awaited_next : (upcoming : Next) (events : List Event) (round : Round) → end_o
 awaited_next (next.Round its) events round is = cc
 awaited_next next.Ended events round is = absurd (none_awaited (bankrupt_in events) round is)
 
--- a game that awaits the same round awaits it
-pub awaits_it : (round asked : Round) → same_round round asked ≡ true → Awaiting round ≡ Awaiting asked
-awaits_it round asked same = ap (λ (its : Round). Awaiting its) (same_round_is round asked same)
+-- a game awaits a round that it is found to await
+pub it_is_awaited : (end : End) (asked : Round) → is_awaited end asked ≡ true → end ≡ Awaiting asked
+it_is_awaited (Awaiting round) asked is = ap (λ (its : Round). Awaiting its) (same_round_is round asked is)
+it_is_awaited Bank asked is = absurd (true≢false (sym is))
+it_is_awaited Bankrupt asked is = absurd (true≢false (sym is))
 
 -- so a round comes next where a state of the play shows that it is awaited
 pub it_comes_next : (play : Underway) (stood : Stood) (asked : Round) → StandsIn play stood

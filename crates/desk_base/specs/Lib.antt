@@ -8,6 +8,7 @@ pub mod Laid
 pub mod Moments
 pub mod NextRound
 pub mod Objections
+pub mod Played
 pub mod Reason
 pub mod Refusal
 pub mod SetNumber

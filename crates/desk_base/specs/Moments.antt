@@ -50,6 +50,11 @@ abbrev pub is_last : Option Round → Round → Bool
 is_last None asked = false
 is_last (Some round) asked = same_round round asked
 
+-- a game awaits this round
+abbrev pub is_awaited : End → Round → Bool
+is_awaited (Awaiting round) asked = same_round round asked
+is_awaited other asked = false
+
 -- a place in the one game of a file, reached as this round was played
 pub record IsAfterRound (file : List ℕ) (round : Round) (there : Between) : Type 0 where
   pub rounds : ℕ

@@ -1,7 +1,8 @@
 //! A game between two rounds: after the last that its sheets play, after a round, or before one.
-ghost use Rattle.std.specs.Prelude.{◌≡◌, IfErr, IfOk, MatchOption, None, Ok, Some, true};
+ghost use Rattle.std.specs.Prelude.{◌≡◌, IfErr, IfOk, MatchOption, None, Ok, Some, false, true};
 ghost use Rattle.desk_base.specs.Moments.{IsBefore, IsBehind, IsFromStart, IsNumbered, ShowsBetween, StandsIn};
-ghost use Rattle.desk_base.specs.Moments.{end_shown, is_last};
+ghost use Rattle.desk_base.specs.Moments.{end_shown, is_awaited, is_last};
+ghost use Rattle.desk_base.specs.Played.{IsRoundFault};
 ghost use Rattle.desk_base.specs.Refusal.{IsOfGame};
 ghost use Rattle.desk_base.specs.SetNumber.{IsNumberPlayed, number_in_set};
 ghost use Rattle.rounds.specs.Steps.{ComesNext, game_so_far};
@@ -108,14 +109,17 @@ fn end_shown(outcome: Option<End>, last: Option<Round>, history: &History) -> En
 
 /// Plays the game of some sheets up to the end of a round. Fails with `Round` if that round is not
 /// played.
-#[tactic(auto, using(crate::proofs::MomentLemmas::at_start, crate::proofs::MomentLemmas::one_step_on))]
+#[tactic(auto, using(crate::proofs::MomentLemmas::at_start, crate::proofs::MomentLemmas::one_step_on,
+    crate::proofs::PlayedLemmas::none_at_first, crate::proofs::PlayedLemmas::none_one_step_on,
+    crate::proofs::PlayedLemmas::last_is_other, crate::proofs::PlayedLemmas::not_played_at_end))]
 pub fn play_behind<'a>(
     alloc: Global,
     sheets: &'a Sheets<'a>,
     asked: Round,
 ) -> Result<Play<'a>, DeskFault>
     ensures behind { IfOk result (IsBehind sheets.now asked) }
-    ensures fault { IfErr result IsOfGame }
+    ensures fault { IfErr result (IsRoundFault sheets.now (Some asked)) }
+    ensures of_game { IfErr result IsOfGame }
 {
     // Laws, which do nothing when they run, and the number of players, at least three.
     rounds::laws::rounds_only_add();
@@ -135,15 +139,20 @@ pub fn play_behind<'a>(
 
 /// Plays the game of some sheets up to the start of a round. Fails with `Round` if that round is
 /// not played.
-#[tactic(auto, using(crate::proofs::MomentLemmas::at_start, crate::proofs::MomentLemmas::one_step_on))]
+#[tactic(auto, using(crate::proofs::MomentLemmas::at_start, crate::proofs::MomentLemmas::one_step_on,
+    crate::proofs::PlayedLemmas::none_at_first, crate::proofs::PlayedLemmas::none_one_step_on,
+    crate::proofs::PlayedLemmas::next_is_other, crate::proofs::PlayedLemmas::not_played_at_end))]
 pub fn play_before<'a>(
     alloc: Global,
     sheets: &'a Sheets<'a>,
     asked: Round,
 ) -> Result<Play<'a>, DeskFault>
     ensures before { IfOk result (IsBefore sheets.now asked) }
-    ensures fault { IfErr result IsOfGame }
+    ensures fault { IfErr result (IsRoundFault sheets.now (Some asked)) }
+    ensures of_game { IfErr result IsOfGame }
 {
+    // A law, which does nothing when it runs.
+    rounds::laws::rounds_only_add();
     let mut play = Play::start(alloc, sheets)?;
     let mut search = Search::new(alloc);
     loop {
@@ -169,8 +178,10 @@ fn is_last(last: Option<Round>, asked: Round) -> bool
 }
 
 /// Returns whether a round comes next, and each player has a sheet for it.
+#[tactic(auto, using(crate::proofs::PlayedLemmas::not_awaited, crate::proofs::PlayedLemmas::not_posted, crate::proofs::PlayedLemmas::not_shown))]
 fn comes_next(play: &Play, asked: Round) -> bool
-    ensures { result ≡ true → IsFromStart play.now.file play.now → ComesNext play.now asked }
+    ensures next { result ≡ true → IsFromStart play.now.file play.now → ComesNext play.now asked }
+    ensures other { result ≡ false → IsFromStart play.now.file play.now → ComesNext play.now asked → ⊥ }
 {
     match stood_now(play) {
         Some(stood) => is_awaited(stood.end, asked) && play.sheets().are_all_posted(&asked),
@@ -179,9 +190,8 @@ fn comes_next(play: &Play, asked: Round) -> bool
 }
 
 /// Returns whether a game awaits this round.
-#[tactic(auto, using(crate::proofs::MomentLemmas::awaits_it))]
 fn is_awaited(end: End, asked: Round) -> bool
-    ensures { result ≡ true → end ≡ Awaiting asked }
+    ensures { result ≡ is_awaited end asked }
 {
     match end {
         End::Awaiting(round) => same_round(round, asked),

@@ -4,10 +4,10 @@
 //!
 //! Reading order: `text` (`Piece`, `push`, `fill`), `wrapped` (lines of 80 columns), `reason`
 //! (`Reason`), `advice`, `explaining` (`explain`), `set_number` (`number_in_set`, `end_after`),
-//! `between_rounds` (`Stood`), `next_round` (`Coming`), `stock_left`, `coming` (`can_come`),
-//! `objection` (`Objection`), `beyond` (what lies at a side), `map_facts`, `by_tables` (what the
-//! map and the tables show), `belongings` (what somebody has), `cause` (which of several causes it
-//! was), `map_state`, `run_line`.
+//! `played` (which rounds were played), `between_rounds` (`Stood`), `next_round` (`Coming`),
+//! `stock_left`, `coming` (`can_come`), `objection` (`Objection`), `beyond` (what lies at a side),
+//! `map_facts`, `by_tables` (what the map and the tables show), `belongings` (what somebody has),
+//! `cause` (which of several causes it was), `map_state`, `run_line`.
 #![tactic(auto)]
 
 mod advice;
@@ -24,6 +24,7 @@ mod map_state;
 mod next_round;
 mod objection;
 mod owed;
+mod played;
 mod reason;
 mod run_line;
 mod set_number;
@@ -45,6 +46,7 @@ pub use map_state::{best_at, board_at, trains_of, view_behind};
 pub use next_round::{Coming, coming_in};
 pub use objection::{Objection, push_objection, who};
 pub use owed::owes;
+pub use played::{round_asked, was_played};
 pub use reason::Reason;
 pub use run_line::push_run;
 pub use set_number::{end_after, number_in_set};

@@ -1,6 +1,8 @@
 //! A game before the round that comes: after a round, or after the last that its sheets play.
-ghost use Rattle.std.specs.Prelude.{◌≡◌, IfOk, length};
+ghost use Rattle.std.specs.Prelude.{◌≡◌, IfErr, IfOk, length};
 ghost use Rattle.desk_base.specs.NextRound.{IsAfter, IsAtLast, IsComing};
+ghost use Rattle.desk_base.specs.Played.{IsMomentFault, moment_after};
+ghost use Rattle.desk_base.specs.declared.between_rounds.Moment.TheVariants.{After, Last};
 ghost use Rattle.history.specs.Sound.{IsSound};
 ghost use Rattle.sheets.specs.File.{players_of};
 
@@ -35,6 +37,7 @@ pub fn coming_in<'a>(
     ensures seats { IfOk result (λ coming.
         coming.history.seats ≡ length (players_of coming.sheets.now)) }
     ensures coming { IfOk result (IsComing sheets.now after) }
+    ensures fault { IfErr result (IsMomentFault sheets.now (moment_after after)) }
 {
     match after {
         Some(round) => coming_after(alloc, sheets, round),
@@ -48,6 +51,7 @@ fn coming_at_last<'a>(alloc: Global, sheets: &'a Sheets<'a>) -> Result<Coming<'a
     ensures seats { IfOk result (λ coming.
         coming.history.seats ≡ length (players_of coming.sheets.now)) }
     ensures coming { IfOk result (IsAtLast sheets.now) }
+    ensures fault { IfErr result (IsMomentFault sheets.now Last) }
 {
     let game = play(alloc, sheets)?;
     let end = game.outcome();
@@ -59,7 +63,8 @@ fn coming_at_last<'a>(alloc: Global, sheets: &'a Sheets<'a>) -> Result<Coming<'a
 }
 
 /// Returns the game after a round.
-#[tactic(auto, using(crate::proofs::MomentLemmas::is_coming_after))]
+#[tactic(auto, using(crate::proofs::MomentLemmas::is_coming_after, crate::proofs::PlayedLemmas::no_moment_behind,
+    crate::proofs::PlayedLemmas::shows_behind))]
 fn coming_after<'a>(
     alloc: Global,
     sheets: &'a Sheets<'a>,
@@ -69,11 +74,12 @@ fn coming_after<'a>(
     ensures seats { IfOk result (λ coming.
         coming.history.seats ≡ length (players_of coming.sheets.now)) }
     ensures coming { IfOk result (IsAfter sheets.now after) }
+    ensures fault { IfErr result (IsMomentFault sheets.now (After after)) }
 {
     let play = play_behind(alloc, sheets, after)?;
-    let end = match (play.history(), stood_now(&play)) {
-        (Some(_), Some(stood)) => stood.end,
-        _ => return Err(DeskFault::Round),
+    let end = match stood_now(&play) {
+        Some(stood) => stood.end,
+        None => return Err(DeskFault::Round),
     };
     Ok(Coming {
         sheets: play.sheets(),

@@ -108,7 +108,7 @@ fn page_with_lays<P: Progress>(
         best: true,
     };
     if task.all {
-        let page = page_of_all_to_hexes(alloc, file, task.round, STYLE)?;
+        let page = page_of_all_to_hexes(alloc, file, task.round, task.due, STYLE)?;
         return end_page(
             alloc,
             page.out,
@@ -118,7 +118,7 @@ fn page_with_lays<P: Progress>(
             progress,
         );
     }
-    let out = page_to_hexes(alloc, file, task.round, STYLE)?;
+    let out = page_to_hexes(alloc, file, task.round, task.due, STYLE)?;
     end_page(alloc, out, file, wanted, &[], progress)
 }
 
@@ -147,8 +147,8 @@ fn told_of(alloc: Global, file: &[u8], asked: Asking) -> Result<Vec<u8>, DeskFau
         }
         Job::Runs => runs(alloc, file, asked.round),
         Job::Bulletin => bulletin(alloc, file, asked.round, asked.due),
-        Job::Page if asked.all => page_of_all(alloc, file, asked.round),
-        Job::Page => page(alloc, file, asked.round),
+        Job::Page if asked.all => page_of_all(alloc, file, asked.round, asked.due),
+        Job::Page => page(alloc, file, asked.round, asked.due),
         _ => told_of_round(alloc, file, asked),
     }
 }

@@ -248,6 +248,7 @@ static WORDS: [Word; 12] = [
         job: Job::Page,
         operands: &[
             Operand::Round,
+            Operand::Due,
             Operand::Rounds,
             Operand::Tiles,
             Operand::Lays,

@@ -5,17 +5,19 @@ use Rattle.std.specs.Str.{str_eq_ignore_ascii_case}
 use Rattle.desk_may.specs.OperatingLines.{AddsOperatingLines}
 use Rattle.desk_may.specs.SheetLines.{standing_lines, turn_lines}
 use Rattle.desk_base.specs.NextRound.{IsComing}
+use Rattle.desk_moves.specs.BestRuns.{AreBestRuns}
 use Rattle.desk_moves.specs.Coming.{AreOrdersIn}
 use Rattle.desk_moves.specs.Lines.{AreLines}
 use Rattle.desk_base.specs.declared.next_round.Coming.{Coming}
 use Rattle.desk_moves.specs.declared.questions.LayForm.{LayForm}
 use Rattle.desk_moves.specs.declared.questions.Question.{Question}
-use Rattle.desk_moves.specs.declared.questions.Question.TheVariants.{Lays, May}
+use Rattle.desk_moves.specs.declared.questions.Question.TheVariants.{Best, Lays, May}
 use Rattle.foresight.specs.Ahead.{OrdersState}
 use Rattle.foresight.specs.Turn.{IsAtHead, IsBehindOpening, IsBehindStock}
 use Rattle.foresight.specs.declared.turn_ahead.TurnAhead.{TurnAhead}
 use Rattle.report.specs.Line.{name_of}
 use Rattle.rounds.specs.declared.game.End.TheVariants.{Awaiting}
+use Rattle.tables.specs.declared.rolling_stock.Kind.{Kind}
 use Rattle.tables.specs.declared.roster.Company.{Company}
 use Rattle.tables.specs.declared.round.Round.{Round}
 use Rattle.tables.specs.declared.round.Round.TheVariants.{Opening, Operating}
@@ -60,6 +62,12 @@ pub record AreLinesOf (coming : Coming) (name : List ℕ) (drafted : Bool) (text
   pub awaited : coming.end ≡ Awaiting round
   pub are : AddsLinesIn (drafter_for drafted (Some seat)) coming.sheets.now coming.history round seat [] text
 
+-- these are the best runs of a company, at the head of its orders in the coming round, with these trains, or with its own
+pub record AreBestOf (coming : Coming) (company : Company) (named : List Kind) (text : List ℕ) : Type 0 where
+  pub orders : OrdersState
+  pub are_orders : AreOrdersIn coming company None orders
+  pub are : AreBestRuns orders.turn.game company named text
+
 -- lays are asked for as lines, without what the best runs would earn
 abbrev pub are_lines : LayForm → Bool
 are_lines form = form.lines && not form.best
@@ -68,6 +76,7 @@ are_lines form = form.lines && not form.best
 abbrev pub Answers : Coming → Question → List ℕ → Type 0
 Answers coming (Lays company form) text = are_lines form ≡ true → AreLaysOf coming company form.drafted text
 Answers coming (May name form) text = form.lines ≡ true → AreLinesOf coming name.now form.drafted text
+Answers coming (Best company trains) text = AreBestOf coming company trains.now text
 Answers coming other text = ⊤
 
 -- a text answers a question in the game before the round that comes

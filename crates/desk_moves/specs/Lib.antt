@@ -1,5 +1,6 @@
 -- What the desk says of moves.
 pub mod Answers
+pub mod BestRuns
 pub mod BestTrains
 pub mod Coming
 pub mod Fault

@@ -1,22 +1,24 @@
 //! The best runs of a company, with the trains that it has or with others.
-ghost use Rattle.std.specs.Prelude.{◌≡◌, IfOk, OnOk, count_by};
+ghost use Rattle.std.specs.Prelude.{◌≡◌, ◌++◌, IfOk, OnOk, count_by};
 ghost use Rattle.std.specs.List.{list_any};
 ghost use Rattle.board_state.specs.MapState.{position_of};
+ghost use Rattle.desk_moves.specs.BestRuns.{AreBestRuns, AreBestRunsWith, AreMeant, best_head};
 ghost use Rattle.desk_moves.specs.BestTrains.{AreAllowed, has_rusted, is_too_many};
 ghost use Rattle.legal_runs.specs.Claim.{ClaimHolds};
 ghost use Rattle.legal_runs.specs.Set.{IsGreatest};
+ghost use Rattle.operating.specs.RunBest.{trains_now};
 ghost use Rattle.tables.specs.Train.{kinds, same_kind};
 
 use crate::fault::{MovesFault, NoAnswer};
 use best_run::best;
 use board::Board;
-use desk_base::Piece::{Number, Words};
-use desk_base::{fill, push_run, trains_of};
+use desk_base::{push_run, trains_of};
 use desk_may::board_now;
 use history::History;
 use legal_runs::Claim;
+use order_grammar::print_number;
 use std::alloc::{AllocError, Global};
-use tables::{Company, Kind, Money, limit, rusts, same_kind, train};
+use tables::{Amount, Company, Kind, limit, rusts, same_kind, train};
 
 /// Returns the best runs of a company as its turn begins, as the desk writes runs: with these
 /// trains, or if there are none with those that it has. The error says what is wrong with the
@@ -26,7 +28,9 @@ pub(crate) fn best_text(
     history: &History,
     company: Company,
     trains: &[Kind],
-) -> Result<Vec<u8>, MovesFault> {
+) -> Result<Vec<u8>, MovesFault>
+    ensures { IfOk result (λ text. AreBestRuns history.now company trains.now text.items) }
+{
     let trains = meant_trains(alloc, history, company, trains)?;
     text_with(alloc, history, company, trains.as_slice())
 }
@@ -38,11 +42,26 @@ fn meant_trains(
     history: &History,
     company: Company,
     trains: &[Kind],
-) -> Result<Vec<Kind>, MovesFault> {
-    if !trains.is_empty() {
-        must_be_allowed(history.phase(), trains)?;
-        return Ok(trains.to_vec(alloc)?);
+) -> Result<Vec<Kind>, MovesFault>
+    ensures { IfOk result (λ meant. AreMeant history.now company trains.now meant.items) }
+{
+    match trains {
+        [] => own_trains(alloc, history, company),
+        named => {
+            must_be_allowed(history.phase(), named)?;
+            Ok(named.to_vec(alloc)?)
+        }
     }
+}
+
+/// Returns the trains of a company. Fails with `NoTrains` if it has none.
+fn own_trains(
+    alloc: Global,
+    history: &History,
+    company: Company,
+) -> Result<Vec<Kind>, MovesFault>
+    ensures { IfOk result (λ trains. trains.items ≡ trains_now history.now.events company) }
+{
     let trains = trains_of(alloc, &history.now(), company)?;
     if trains.is_empty() {
         return Err(MovesFault::Asked(NoAnswer::NoTrains));
@@ -56,11 +75,14 @@ fn text_with(
     history: &History,
     company: Company,
     trains: &[Kind],
-) -> Result<Vec<u8>, MovesFault> {
+) -> Result<Vec<u8>, MovesFault>
+    ensures { IfOk result (λ text. AreBestRunsWith history.now company trains.now text.items) }
+{
     let board = board_now(alloc, history)?;
     let claim = best_claim(alloc, &board, company, trains)?;
     let mut text = Vec::new(alloc);
-    push_claim(&mut text, &board, company, &claim)?;
+    push_head(&mut text, company, claim.revenue)?;
+    text.extend_from_slice(runs_text(alloc, &board, &claim)?.as_slice())?;
     Ok(text)
 }
 
@@ -80,20 +102,24 @@ fn best_claim(
     Ok(found.claim)
 }
 
-/// Adds what a company would earn, and the runs that earn it.
-fn push_claim(
-    out: &mut Vec<u8>,
-    board: &Board,
-    company: Company,
-    claim: &Claim,
-) -> Result<(), AllocError> {
-    let code = Words(company.code());
-    let revenue = Number(Money::from(claim.revenue));
-    fill(out, "RUNS % % BEST\n", &[code, revenue])?;
+/// Adds what a company would earn.
+fn push_head(out: &mut Vec<u8>, company: Company, revenue: Amount) -> Result<(), AllocError>
+    ensures { OnOk result (out.new.items ≡ out.old.items ++ best_head company revenue) }
+{
+    out.extend_from_slice(b"RUNS ")?;
+    out.extend_from_slice(company.code().as_bytes())?;
+    out.push(b' ')?;
+    print_number(out, revenue)?;
+    out.extend_from_slice(b" BEST\n")
+}
+
+/// Returns the lines of the runs that earn it.
+fn runs_text(alloc: Global, board: &Board, claim: &Claim) -> Result<Vec<u8>, AllocError> {
+    let mut text = Vec::new(alloc);
     for claimed in claim.runs.as_slice() {
-        push_run(out, board, claimed.kind, &claimed.run)?;
+        push_run(&mut text, board, claimed.kind, &claimed.run)?;
     }
-    Ok(())
+    Ok(text)
 }
 
 /// Fails unless a company may have these trains in a phase: none has rusted, there are enough of

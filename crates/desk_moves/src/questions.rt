@@ -1,7 +1,7 @@
 //! What is asked, and where: at the head of a turn of the coming round, after all sheets or after a
 //! named round.
 ghost use Rattle.std.specs.Prelude.{◌≡◌, IfOk, length, true};
-ghost use Rattle.desk_moves.specs.Answers.{Answers, AreLaysOf, IsAnswer, are_lines};
+ghost use Rattle.desk_moves.specs.Answers.{Answers, AreBestOf, AreLaysOf, IsAnswer, are_lines};
 ghost use Rattle.desk_moves.specs.Coming.{AreOrdersIn};
 ghost use Rattle.history.specs.Sound.{IsSound};
 ghost use Rattle.sheets.specs.File.{players_of};
@@ -121,6 +121,7 @@ fn answer_best(
 ) -> Result<Vec<u8>, MovesFault>
     requires sound { IsSound coming.history }
     requires seats { coming.history.seats ≡ length (players_of coming.sheets.now) }
+    ensures { IfOk result (λ text. AreBestOf coming.entry company trains.now text.items) }
 {
     president_in(&coming, company)?;
     let orders = orders_in(alloc, coming, company, None)?;

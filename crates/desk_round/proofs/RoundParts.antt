@@ -1,12 +1,14 @@
 -- A round's part of the report of a file.
-use Rattle.std.proofs.Common.{◌≡◌, ℕ, true, List, Option}
-use Rattle.desk_base.specs.Refusal.{HasNone, IsOfGame}
-use Rattle.desk_round.specs.RoundPart.{HasNoText, IsRoundFault, IsRoundPart}
-use Rattle.desk_round.specs.RoundPart.{is_played, round_asked, text_of_round}
+use Rattle.std.proofs.Common.{◌≡◌, ℕ, true, List, Option, Some}
+use Rattle.desk_base.proofs.PlayedLemmas.{has_turns}
+use Rattle.desk_base.specs.Played.{HasNoRound, IsRoundFault, is_played, round_asked}
+use Rattle.desk_round.specs.RoundPart.{HasNoText, HasNoTurns, IsRoundPart, text_of_round}
 use Rattle.desk_base.specs.declared.fault.DeskFault.{DeskFault}
 use Rattle.desk_base.specs.declared.fault.DeskFault.TheVariants.{File, Round, Memory}
+use Rattle.events.specs.declared.event.Event.{Event}
 use Rattle.rounds.specs.Play.{IsTheGame, Played}
 use Rattle.tables.specs.declared.round.Round as the_round
+use Rattle.totals.specs.LookBack.{round_of}
 
 -- the text of the round that is asked for in the game of a file
 pub part_of_file :
@@ -26,16 +28,9 @@ no_part_of_file Round played asked file of_file game none =
 no_part_of_file Memory played asked file of_file game none = tt
 no_part_of_file (File fault) played asked file of_file game none = absurd none
 
--- where a file has no sheets
-pub no_part_where_it_fails : (fault : DeskFault) (asked : Option the_round.Round) (file : List ℕ) → HasNone fault file
-    → IsRoundFault file asked fault
-no_part_where_it_fails Round asked file none = absurd none
-no_part_where_it_fails Memory asked file none = none
-no_part_where_it_fails (File fault) asked file none = none
-
--- a round that is not there is no fault of a file
-pub of_game : (fault : DeskFault) (played : Played) (asked : Option the_round.Round) → HasNoText played asked fault
-    → IsOfGame fault
-of_game Round played asked none = tt
-of_game Memory played asked none = tt
-of_game (File fault) played asked none = absurd none
+-- the last round of a game has turns
+pub last_has_turns : (fault : DeskFault) (events : List Event) (round : the_round.Round)
+    → round_of events ≡ Some round → HasNoTurns events round fault → HasNoRound events fault
+last_has_turns Round events round last none = absurd (has_turns events round last none)
+last_has_turns Memory events round last none = tt
+last_has_turns (File fault) events round last none = absurd none

@@ -1,6 +1,5 @@
 -- What the desk tells of a round.
 pub mod Change
 pub mod Groups
-pub mod Played
 pub mod RoundPart
 pub mod RunsRound

@@ -5,7 +5,7 @@ use Rattle.std.specs.List.{cons_option, fold}
 use Rattle.std.specs.Option.{option_or}
 use Rattle.desk_base.specs.declared.fault.DeskFault.{DeskFault}
 use Rattle.desk_base.specs.declared.fault.DeskFault.TheVariants as desk
-use Rattle.desk_round.specs.Played.{was_played}
+use Rattle.desk_base.specs.Played.{was_played}
 use Rattle.desk_round.specs.declared.train_runs.RunRow.{RunRow}
 use Rattle.desk_round.specs.declared.train_runs.Seen.{Seen}
 use Rattle.desk_why.specs.Refused.{within_then}
@@ -13,6 +13,7 @@ use Rattle.events.specs.declared.event.Event.{Event}
 use Rattle.events.specs.declared.event.Event.TheVariants.{Round as Begun, Ruled, Runs}
 use Rattle.tables.specs.declared.roster.Company.{Company}
 use Rattle.tables.specs.declared.round.Round.{Round}
+use Rattle.totals.specs.LookBack.{round_of}
 
 -- after one more event
 abbrev pub seen_then : Seen → Event → Seen
@@ -20,11 +21,9 @@ seen_then seen (Begun round) = record seen { begun = Some round }
 seen_then seen (Runs company revenue) = record seen { ran = seen.begun }
 seen_then seen other = seen
 
--- the last round of a game in which a company ran; the last that was played, if none did
+-- the last round of a game in which a company ran
 abbrev pub last_with_runs : List Event → Option Round
-last_with_runs events =
-    let seen = fold seen_then (record { begun = None; ran = None }) events in
-    option_or seen.ran seen.begun
+last_with_runs events = (fold seen_then (record { begun = None; ran = None }) events).ran
 
 -- that round, if there is one
 abbrev pub round_if : Option Round → Result Round DeskFault
@@ -34,7 +33,7 @@ round_if (Some round) = Ok round
 -- the round of which the runs are told
 abbrev pub round_of_runs : List Event → Option Round → Result Round DeskFault
 round_of_runs events (Some round) = if was_played events round then Ok round else Err desk.Round
-round_of_runs events None = round_if (last_with_runs events)
+round_of_runs events None = round_if (option_or (last_with_runs events) (round_of events))
 
 -- how many events precede the last ruling of a line, with one more event
 abbrev pub ruled_then : Option ℕ → ℕ → Event → Option ℕ

@@ -1,15 +1,16 @@
 //! The turns of a round for its players: whose turn it was, what each had before and after, and
 //! what each line led to.
 ghost use Rattle.std.specs.Prelude.{◌≡◌, IfErr, OnOk, true};
-ghost use Rattle.desk_round.specs.Played.{HasNoTurns, was_played};
+ghost use Rattle.desk_base.specs.Played.{was_played};
+ghost use Rattle.desk_round.specs.RoundPart.{HasNoTurns};
 
 use crate::changes::{push_change, push_changes};
 use crate::groups::{Group, Whose, groups_of};
 use crate::left_lines::{Left, Presided, ruled_in};
-use crate::played::was_played;
 use crate::train_runs::push_ran;
 use desk_base::Piece::{Bytes, Column, Cut, Number, Right, Words};
-use desk_base::{DeskFault, Piece, fill, push, push_wrapped, push_wrapped_lines, view_behind, who};
+use desk_base::{DeskFault, Piece, fill, push, push_wrapped, push_wrapped_lines, view_behind};
+use desk_base::{was_played, who};
 use desk_why::{FAULTY_COLUMNS, Ruled, SheetLine, find_line, lines_of, push_rule};
 use history::{Event, GameView, History, Holder, PackedRuling, Ruling, Verdict, Walk};
 use order_grammar::{print_condition, print_order};

@@ -1,14 +1,12 @@
 //! A round's part of the report, with or without the rules that refused lines broke.
 ghost use Rattle.std.specs.Prelude.{◌≡◌, IfErr, IfOk, OnOk, true};
-ghost use Rattle.desk_base.specs.Refusal.{HasNoState, IsOfGame};
-ghost use Rattle.desk_round.specs.RoundPart.{HasNoText, IsRoundFault, IsRoundPart, is_played};
-ghost use Rattle.desk_round.specs.RoundPart.{round_asked, text_of_round};
+ghost use Rattle.desk_base.specs.Played.{IsRoundFault, is_played, round_asked};
+ghost use Rattle.desk_round.specs.RoundPart.{HasNoText, IsRoundPart, text_of_round};
 ghost use Rattle.sheets.specs.File.{IsAccepted};
 
-use crate::played::was_played;
 use crate::round_texts::{Told, tell};
 use desk_base::Piece::Bytes;
-use desk_base::{DeskFault, fill, push, view_behind};
+use desk_base::{DeskFault, fill, push, round_asked, view_behind, was_played};
 use desk_why::{Ruled, SheetLine, lines_of, push_why, refused_in};
 use history::{Event, Walk};
 use report::round_text;
@@ -20,7 +18,7 @@ use tables::Round;
 /// Returns the part of a file's report about a round: the named one, or else the last one played.
 /// Fails with `File` if the file is refused, with `Round` if that round was not played, or no round
 /// was, and with `Memory` if allocation fails.
-#[tactic(auto, using(desk_base::proofs::Refusals::none_where_it_fails, crate::proofs::RoundParts::no_part_where_it_fails))]
+#[tactic(auto, using(desk_base::proofs::Refusals::none_where_it_fails, desk_base::proofs::PlayedLemmas::no_round_where_it_fails))]
 pub fn round(alloc: Global, file: &[u8], asked: Option<Round>) -> Result<Vec<u8>, DeskFault>
     ensures part { IfOk result (λ text. IsRoundPart file.now asked text.items) }
     ensures fault { IfErr result (IsRoundFault file.now asked) }
@@ -47,19 +45,18 @@ pub fn round_with_rules(
     asked: Option<Round>,
 ) -> Result<Vec<u8>, DeskFault>
     ensures accepted { OnOk result (IsAccepted file.now) }
-    ensures fault { IfErr result (λ fault. HasNoState fault file.now) }
+    ensures fault { IfErr result (IsRoundFault file.now asked) }
 {
     tell(alloc, file, asked, Told::Rules)
 }
 
 /// Returns that part of a game's report, with the broken rules.
-#[tactic(auto, using(crate::proofs::RoundParts::of_game))]
 pub(crate) fn rules_of(
     alloc: Global,
     game: &Game,
     asked: Option<Round>,
 ) -> Result<Vec<u8>, DeskFault>
-    ensures { IfErr result IsOfGame }
+    ensures { IfErr result (HasNoText game.now (round_asked game.now asked)) }
 {
     let Some(round) = round_asked(game, asked) else {
         return Err(DeskFault::Round);
@@ -87,16 +84,6 @@ pub(crate) fn text_of(
         return Err(DeskFault::Round);
     }
     Ok(round_text(alloc, game, round)?)
-}
-
-/// Returns the named round, or if none is named the last one played; `None` before the first.
-pub(crate) fn round_asked(game: &Game, asked: Option<Round>) -> Option<Round>
-    ensures { result ≡ round_asked game.now asked }
-{
-    match asked {
-        Some(round) => Some(round),
-        None => game.history().now().round(),
-    }
 }
 
 /// Adds the text of a round, with the broken rule below each refused line. The text begins with one

@@ -1,6 +1,6 @@
 //! The texts of a round of the game of a file, other than its part of the report.
 ghost use Rattle.std.specs.Prelude.{IfErr, OnOk};
-ghost use Rattle.desk_base.specs.Refusal.{HasNoState, IsOfGame};
+ghost use Rattle.desk_base.specs.Played.{IsRoundFault};
 ghost use Rattle.sheets.specs.File.{IsAccepted};
 
 use crate::round_part::rules_of;
@@ -21,7 +21,7 @@ pub(crate) enum Told {
 }
 
 /// Returns a text of a round of the game of a file.
-#[tactic(auto, using(desk_base::proofs::Refusals::no_state_where_it_fails, desk_base::proofs::Refusals::no_state_of_game))]
+#[tactic(auto, using(desk_base::proofs::Refusals::none_where_it_fails, desk_base::proofs::PlayedLemmas::no_round_where_it_fails))]
 pub(crate) fn tell(
     alloc: Global,
     file: &[u8],
@@ -29,20 +29,21 @@ pub(crate) fn tell(
     told: Told,
 ) -> Result<Vec<u8>, DeskFault>
     ensures accepted { OnOk result (IsAccepted file.now) }
-    ensures fault { IfErr result (λ fault. HasNoState fault file.now) }
+    ensures fault { IfErr result (IsRoundFault file.now asked) }
 {
     let sheets = collect(alloc, file)?;
     tell_in(alloc, &sheets, asked, told)
 }
 
 /// Returns a text of a round of the game of some sheets.
+#[tactic(auto, using(crate::proofs::RoundParts::no_part_of_file))]
 fn tell_in(
     alloc: Global,
     sheets: &Sheets,
     asked: Option<Round>,
     told: Told,
 ) -> Result<Vec<u8>, DeskFault>
-    ensures { IfErr result IsOfGame }
+    ensures { IfErr result (IsRoundFault sheets.now asked) }
 {
     let game = play(alloc, sheets)?;
     match told {

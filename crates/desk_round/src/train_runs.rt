@@ -1,14 +1,14 @@
 //! What the trains of each company ran in a round, stop by stop.
 ghost use Rattle.std.specs.Prelude.{◌≡◌, ◌++◌, IfErr, IfOk, OnOk};
-ghost use Rattle.desk_base.specs.Refusal.{HasNoState, IsOfGame};
+ghost use Rattle.desk_base.specs.Played.{IsRoundFault, round_asked};
+ghost use Rattle.desk_round.specs.RoundPart.{HasNoText};
 ghost use Rattle.desk_round.specs.RunsRound.{last_with_runs, ran, round_of_runs, ruled_then, run_by};
 ghost use Rattle.desk_round.specs.RunsRound.{runs_by, runs_in, seen_then};
 ghost use Rattle.sheets.specs.File.{IsAccepted};
 
-use crate::played::was_played;
 use crate::round_texts::{Told, tell};
 use desk_base::Piece::{Number, Words};
-use desk_base::{DeskFault, Piece, best_at, board_at, fill, push, push_run, view_behind};
+use desk_base::{DeskFault, Piece, best_at, board_at, fill, push, push_run, view_behind, was_played};
 use desk_why::within_then;
 use history::{Event, GameView, History, Ruling, Walk};
 use order_grammar::{Order, PlayOrder};
@@ -23,7 +23,7 @@ use tables::{Amount, Company, Money, Round};
 /// played, or no round was.
 pub fn runs(alloc: Global, file: &[u8], asked: Option<Round>) -> Result<Vec<u8>, DeskFault>
     ensures accepted { OnOk result (IsAccepted file.now) }
-    ensures fault { IfErr result (λ fault. HasNoState fault file.now) }
+    ensures fault { IfErr result (IsRoundFault file.now asked) }
 {
     tell(alloc, file, asked, Told::Runs)
 }
@@ -34,9 +34,9 @@ pub(crate) fn runs_of(
     game: &Game,
     asked: Option<Round>,
 ) -> Result<Vec<u8>, DeskFault>
-    ensures { IfErr result IsOfGame }
+    ensures { IfErr result (HasNoText game.now (round_asked game.now asked)) }
 {
-    let round = round_with_runs(game.history().events(), asked)?;
+    let round = round_with_runs(game, asked)?;
     let mut out = Vec::new(alloc);
     push_runs(alloc, &mut out, game.history(), round)?;
     Ok(out)
@@ -44,17 +44,15 @@ pub(crate) fn runs_of(
 
 /// Returns the named round if it was played; if none is named, the last in which a company ran, or
 /// the last that was played if none ran. Fails with `Round` otherwise.
-fn round_with_runs(events: &[Event], asked: Option<Round>) -> Result<Round, DeskFault>
-    ensures round { result ≡ round_of_runs events.now asked }
-    ensures fault { IfErr result IsOfGame }
+fn round_with_runs(game: &Game, asked: Option<Round>) -> Result<Round, DeskFault>
+    ensures round { result ≡ round_of_runs game.now.game.events asked }
+    ensures fault { IfErr result (HasNoText game.now (round_asked game.now asked)) }
 {
-    match asked {
-        Some(round) if was_played(events, round) => Ok(round),
-        Some(_) => Err(DeskFault::Round),
-        None => match last_with_runs(events) {
-            Some(round) => Ok(round),
-            None => Err(DeskFault::Round),
-        },
+    let history = game.history();
+    match (asked, last_with_runs(history.events()), history.now().round()) {
+        (Some(round), _, _) if was_played(history.events(), round) => Ok(round),
+        (None, Some(round), _) | (None, None, Some(round)) => Ok(round),
+        _ => Err(DeskFault::Round),
     }
 }
 
@@ -86,8 +84,7 @@ impl Seen {
     }
 }
 
-/// Returns the last round of a game in which a company ran, or the last that was played if none
-/// ran; `None` if none was played.
+/// Returns the last round of a game in which a company ran; `None` if none ran.
 fn last_with_runs(events: &[Event]) -> Option<Round>
     ensures { result ≡ last_with_runs events.now }
 {
@@ -98,10 +95,7 @@ fn last_with_runs(events: &[Event]) -> Option<Round>
     for event in events {
         seen = seen.then(event);
     }
-    match seen.ran {
-        Some(round) => Some(round),
-        None => seen.begun,
-    }
+    seen.ran
 }
 
 /// What a company earned in a round.

@@ -1,11 +1,11 @@
 //! The events of a round as JSON, each with the word and the fields of its line in the report.
 ghost use Rattle.std.specs.Prelude.{IfErr, OnOk};
-ghost use Rattle.desk_base.specs.Refusal.{HasNoState, IsOfGame};
+ghost use Rattle.desk_base.specs.Played.{IsRoundFault};
 ghost use Rattle.sheets.specs.File.{IsAccepted};
 
 use crate::event_facts::EventFacts;
 use crate::facts::{FORM, Fact, Object, json_line};
-use desk_base::DeskFault;
+use desk_base::{DeskFault, round_asked, was_played};
 use history::Event;
 use rounds::play;
 use serde::{Described, Serialize, Serializer};
@@ -16,25 +16,26 @@ use tables::Round;
 /// Returns the events of a round of the game of an order file as JSON, in one line: the round
 /// named, or else the last one played. Fails with `File` if the file is refused, with `Round` if
 /// that round was not played, or no round was, and with `Memory` if allocation fails.
-#[tactic(auto, using(desk_base::proofs::Refusals::no_state_where_it_fails, desk_base::proofs::Refusals::no_state_of_game))]
+#[tactic(auto, using(desk_base::proofs::Refusals::none_where_it_fails, desk_base::proofs::PlayedLemmas::no_round_where_it_fails))]
 pub fn round_facts(alloc: Global, file: &[u8], asked: Option<Round>) -> Result<Vec<u8>, DeskFault>
     ensures accepted { OnOk result (IsAccepted file.now) }
-    ensures fault { IfErr result (λ fault. HasNoState fault file.now) }
+    ensures fault { IfErr result (IsRoundFault file.now asked) }
 {
     let sheets = collect(alloc, file)?;
     facts_in(alloc, &sheets, asked)
 }
 
 /// Returns those events of the game of some sheets.
+#[tactic(auto, using(desk_base::proofs::PlayedLemmas::round_was_not_played))]
 fn facts_in(alloc: Global, sheets: &Sheets, asked: Option<Round>) -> Result<Vec<u8>, DeskFault>
-    ensures { IfErr result IsOfGame }
+    ensures { IfErr result (IsRoundFault sheets.now asked) }
 {
     let game = play(alloc, sheets)?;
-    let Some(round) = asked.or(game.history().now().round()) else {
+    let Some(round) = round_asked(&game, asked) else {
         return Err(DeskFault::Round);
     };
     let events = game.history().events();
-    if !events.iter().any(|event| event.round() == Some(round)) {
+    if !was_played(events, round) {
         return Err(DeskFault::Round);
     }
     let facts = RoundFacts {

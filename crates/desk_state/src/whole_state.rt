@@ -3,7 +3,7 @@
 //! Its facts come from the readers of the game's list, or from `purse`, `earnings`, `stack` and
 //! `stock_left`, whose contracts define them. The rest is layout.
 ghost use Rattle.std.specs.Prelude.{IfErr, OnOk};
-ghost use Rattle.desk_base.specs.Refusal.{HasNoState, IsOfGame};
+ghost use Rattle.desk_base.specs.Played.{IsMomentFault, IsPlayedIn, IsRoundFault, ShowsNone};
 ghost use Rattle.sheets.specs.File.{IsAccepted};
 
 use crate::facts::json_line;
@@ -39,7 +39,8 @@ pub enum StateForm {
 ///
 /// Fails with `File` if the file is refused, with `Round` if the moment names a round that was not
 /// played, or is `BeforeLast` and no round was, and with `Memory` if allocation fails.
-#[tactic(auto, using(desk_base::proofs::Refusals::no_state_where_it_fails, desk_base::proofs::Refusals::no_state_of_game))]
+#[tactic(auto, using(desk_base::proofs::Refusals::none_where_it_fails,
+    desk_base::proofs::PlayedLemmas::no_moment_where_it_fails))]
 pub fn state(
     alloc: Global,
     file: &[u8],
@@ -47,26 +48,31 @@ pub fn state(
     form: StateForm,
 ) -> Result<Vec<u8>, DeskFault>
     ensures accepted { OnOk result (IsAccepted file.now) }
-    ensures fault { IfErr result (λ fault. HasNoState fault file.now) }
+    ensures fault { IfErr result (IsMomentFault file.now moment) }
 {
     let sheets = collect(alloc, file)?;
     state_at(alloc, &sheets, moment, form)
 }
 
 /// Returns the state of the game of some sheets at a moment.
+#[tactic(auto, using(desk_base::proofs::PlayedLemmas::no_moment_behind,
+    desk_base::proofs::PlayedLemmas::no_moment_before, desk_base::proofs::PlayedLemmas::no_moment_before_any,
+    desk_base::proofs::PlayedLemmas::no_moment_before_last))]
 fn state_at(
     alloc: Global,
     sheets: &Sheets,
     moment: Moment,
     form: StateForm,
 ) -> Result<Vec<u8>, DeskFault>
-    ensures { IfErr result IsOfGame }
+    ensures { IfErr result (IsMomentFault sheets.now moment) }
 {
     match moment {
-        Moment::Last => state_at_last(alloc, sheets, form),
+        Moment::Last => Ok(state_at_last(alloc, sheets, form)?),
         Moment::After(round) => text_behind(alloc, sheets, round, form),
         Moment::Before(round) => text_before(alloc, sheets, round, form),
         Moment::BeforeLast => {
+            // A law, which does nothing when it runs.
+            rounds::laws::one_game();
             let last = last_round(alloc, sheets)?;
             text_before(alloc, sheets, last, form)
         }
@@ -74,42 +80,43 @@ fn state_at(
 }
 
 /// Returns the state of the game of some sheets after a round.
+#[tactic(auto, using(desk_base::proofs::PlayedLemmas::shows_behind))]
 fn text_behind(
     alloc: Global,
     sheets: &Sheets,
     round: Round,
     form: StateForm,
 ) -> Result<Vec<u8>, DeskFault>
-    ensures { IfErr result IsOfGame }
+    ensures { IfErr result (IsRoundFault sheets.now (Some round)) }
 {
     let play = play_behind(alloc, sheets, round)?;
     text_of_play(alloc, &play, form)
 }
 
 /// Returns the state of the game of some sheets before a round.
+#[tactic(auto, using(desk_base::proofs::PlayedLemmas::shows_before))]
 fn text_before(
     alloc: Global,
     sheets: &Sheets,
     round: Round,
     form: StateForm,
 ) -> Result<Vec<u8>, DeskFault>
-    ensures { IfErr result IsOfGame }
+    ensures { IfErr result (IsRoundFault sheets.now (Some round)) }
 {
     let play = play_before(alloc, sheets, round)?;
     text_of_play(alloc, &play, form)
 }
 
 /// Returns the state of the game of some sheets after the last round.
-fn state_at_last(alloc: Global, sheets: &Sheets, form: StateForm) -> Result<Vec<u8>, DeskFault>
-    ensures { IfErr result IsOfGame }
+fn state_at_last(alloc: Global, sheets: &Sheets, form: StateForm) -> Result<Vec<u8>, AllocError>
 {
     let game = play(alloc, sheets)?;
-    Ok(state_text(alloc, &stood_at_last(&game), form)?)
+    state_text(alloc, &stood_at_last(&game), form)
 }
 
 /// Returns the state of a game that was played up to here.
 fn text_of_play(alloc: Global, play: &Play, form: StateForm) -> Result<Vec<u8>, DeskFault>
-    ensures { IfErr result IsOfGame }
+    ensures { IfErr result (ShowsNone play.now) }
 {
     match stood_now(play) {
         Some(stood) => Ok(state_text(alloc, &stood, form)?),
@@ -118,8 +125,10 @@ fn text_of_play(alloc: Global, play: &Play, form: StateForm) -> Result<Vec<u8>, 
 }
 
 /// Returns the last round that some sheets play. Fails with `Round` if they play none.
+#[tactic(auto, using(desk_base::proofs::PlayedLemmas::last_was_played, desk_base::proofs::PlayedLemmas::none_was_played))]
 fn last_round(alloc: Global, sheets: &Sheets) -> Result<Round, DeskFault>
-    ensures { IfErr result IsOfGame }
+    ensures played { IfOk result (λ round. IsPlayedIn sheets.now round) }
+    ensures fault { IfErr result (IsRoundFault sheets.now None) }
 {
     let game = play(alloc, sheets)?;
     match game.history().now().round() {

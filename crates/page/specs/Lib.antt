@@ -1,3 +1,4 @@
 pub mod ChartToken
 pub mod Checksum
+pub mod Due
 pub mod Revenue

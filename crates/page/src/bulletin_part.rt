@@ -1,7 +1,7 @@
 //! The bulletin of a round: its turns as its players read them, and a statement of what they have
 //! after it; and the same on a page.
 ghost use Rattle.std.specs.Prelude.{IfErr, OnOk};
-ghost use Rattle.desk_base.specs.Refusal.{HasNoState, IsOfGame};
+ghost use Rattle.desk_base.specs.Played.{HasNoRound, IsRoundFault};
 ghost use Rattle.rounds.specs.Play.{IsTheGame};
 ghost use Rattle.sheets.specs.File.{IsAccepted};
 
@@ -10,7 +10,7 @@ use desk_round::turns;
 use desk_state::statement;
 use markup::PagePiece::{Round as Named, Words};
 use markup::{Tag, Writer, begin_section};
-use rounds::{Game, Play, play};
+use rounds::{Game, play};
 use sheets::{Sheets, collect};
 use std::alloc::{AllocError, Global};
 use tables::Round;
@@ -19,7 +19,8 @@ use tables::Round;
 /// played, in lines of at most 80 columns. `due` says when the next sheets are due; it may be
 /// empty. Fails with `File` if the file is refused, with `Round` if that round was not played or no
 /// round was, and with `Memory` if allocation fails.
-#[tactic(auto, using(desk_base::proofs::Refusals::no_state_where_it_fails, desk_base::proofs::Refusals::no_state_of_game))]
+#[tactic(auto, using(desk_base::proofs::Refusals::none_where_it_fails,
+    desk_base::proofs::PlayedLemmas::no_round_where_it_fails))]
 pub fn bulletin(
     alloc: Global,
     file: &[u8],
@@ -27,7 +28,7 @@ pub fn bulletin(
     due: &str,
 ) -> Result<Vec<u8>, DeskFault>
     ensures accepted { OnOk result (IsAccepted file.now) }
-    ensures fault { IfErr result (λ fault. HasNoState fault file.now) }
+    ensures fault { IfErr result (IsRoundFault file.now asked) }
 {
     let sheets = collect(alloc, file)?;
     bulletin_by(alloc, &sheets, asked, due)
@@ -40,7 +41,7 @@ fn bulletin_by(
     asked: Option<Round>,
     due: &str,
 ) -> Result<Vec<u8>, DeskFault>
-    ensures { IfErr result IsOfGame }
+    ensures { IfErr result (IsRoundFault sheets.now asked) }
 {
     match asked {
         Some(round) => bulletin_behind(alloc, sheets, round, due),
@@ -49,23 +50,19 @@ fn bulletin_by(
 }
 
 /// Returns the bulletin of a round of the game of some sheets.
+#[tactic(auto, using(desk_base::proofs::PlayedLemmas::shows_behind, desk_base::proofs::PlayedLemmas::has_one_behind))]
 fn bulletin_behind(
     alloc: Global,
     sheets: &Sheets,
     round: Round,
     due: &str,
 ) -> Result<Vec<u8>, DeskFault>
-    ensures { IfErr result IsOfGame }
+    ensures { IfErr result (IsRoundFault sheets.now (Some round)) }
 {
+    // A law, which does nothing when it runs.
+    rounds::laws::rounds_only_add();
     let play = play_behind(alloc, sheets, round)?;
-    bulletin_of_play(alloc, &play, due)
-}
-
-/// Returns the bulletin of the last round of a game that was played up to here.
-fn bulletin_of_play(alloc: Global, play: &Play, due: &str) -> Result<Vec<u8>, DeskFault>
-    ensures { IfErr result IsOfGame }
-{
-    match stood_now(play) {
+    match stood_now(&play) {
         Some(stood) => bulletin_of(alloc, &stood, due),
         None => Err(DeskFault::Round),
     }
@@ -73,24 +70,26 @@ fn bulletin_of_play(alloc: Global, play: &Play, due: &str) -> Result<Vec<u8>, De
 
 /// Returns the bulletin of the last round of the game of some sheets.
 fn bulletin_at_last(alloc: Global, sheets: &Sheets, due: &str) -> Result<Vec<u8>, DeskFault>
-    ensures { IfErr result IsOfGame }
+    ensures { IfErr result (IsRoundFault sheets.now None) }
 {
     let game = play(alloc, sheets)?;
     bulletin_of_game(alloc, &game, due)
 }
 
 /// Returns the bulletin of the last round of a game.
+#[tactic(auto, using(desk_base::proofs::PlayedLemmas::none_at_last))]
 fn bulletin_of_game(alloc: Global, game: &Game, due: &str) -> Result<Vec<u8>, DeskFault>
     requires { IsTheGame game.now }
-    ensures { IfErr result IsOfGame }
+    ensures { IfErr result (IsRoundFault game.now.file None) }
 {
     bulletin_of(alloc, &stood_at_last(game), due)
 }
 
 /// Returns the bulletin of the last round of a game at a moment: its turns, and then the statement.
 /// Fails with `Round` if no round has been played.
+#[tactic(auto, using(desk_round::proofs::RoundParts::last_has_turns))]
 pub(crate) fn bulletin_of(alloc: Global, stood: &Stood, due: &str) -> Result<Vec<u8>, DeskFault>
-    ensures { IfErr result IsOfGame }
+    ensures { IfErr result (HasNoRound stood.history.now.events) }
 {
     let Some(round) = stood.history.now().round() else {
         return Err(DeskFault::Round);

@@ -7,19 +7,19 @@
 //! bulletin, which is escaped. The map is from `page_map`, the routes are from `page_routes`, and
 //! the charts from `page_charts`. The pages of `games/page/` test the layout.
 //!
-//! The definitions, in `specs/`: `Checksum` (of the bytes of a file), `Revenue` (what a company
-//! earned in a round).
+//! The definitions, in `specs/`: `Checksum` (of the bytes of a file), `Due` (the umpire's words on
+//! when sheets are due), `Revenue` (what a company earned in a round).
 //!
 //! The page of an order file in memory, `FIRST`:
 //!
 //! ```
-//! let Ok(text) = page(rt.alloc(), FIRST.as_bytes(), None) else {
+//! let Ok(text) = page(rt.alloc(), FIRST.as_bytes(), None, "") else {
 //!     panic!(rt; "no page")
 //! };
 //! assert!(rt; text.as_slice().starts_with(b"<!DOCTYPE html>\n"));
 //! ```
 //!
-//! Reading order: `worth_history` (the game round by round), `checksum`, `style`, `bulletin_part`,
+//! Reading order: `worth_history` (the game round by round), `checksum`, `due`, `style`, `bulletin_part`,
 //! `phases_part`, `result_part`, `players_part`, `companies_part`, `revenue_part`, `status_part`,
 //! `whole_page` (`page`), `all_tiles` (`tile_sheet`).
 #![tactic(auto)]
@@ -28,6 +28,7 @@ mod all_tiles;
 mod bulletin_part;
 mod checksum;
 mod companies_part;
+mod due;
 mod phases_part;
 mod players_part;
 mod result_part;
@@ -44,11 +45,12 @@ pub use companies_part::{
     begin_owners, begin_trains, name_of, put_kind, put_owner, put_square_words, put_train_codes,
     put_waiting_words,
 };
+pub use due::{due_shown, due_told};
 pub use phases_part::colours_of;
 pub use players_part::{FIGURES, Figure, figure_of, put_codes};
 pub use result_part::put_result;
 pub use revenue_part::put_revenue;
 pub use status_part::{put_links, put_names, put_next, put_skip, put_source, put_train_on_sale};
-pub use style::STYLE;
+pub use style::{STYLE, STYLE_OF_DUE};
 pub use whole_page::{page, page_to_hexes, players_of, tokens_of};
 pub use worth_history::{entry_of, thinned};

@@ -2,6 +2,7 @@
 
 use crate::checksum::Source;
 use crate::phases_part::colours_of;
+use crate::whole_page::Told;
 use desk_base::trains_left;
 use desk_state::operates;
 use history::{History, Party};
@@ -71,12 +72,13 @@ pub fn put_links(out: &mut Writer, links: &[(&'static str, &'static str)]) {
     out.end();
 }
 
-/// Adds a summary of the game, with the file's number of lines and its checksum.
-pub(crate) fn put_status(out: &mut Writer, scene: &Scene, order: &[Company], source: Source) {
+/// Adds a summary of the game, with when sheets are due, and the file's number of lines and its
+/// checksum.
+pub(crate) fn put_status(out: &mut Writer, scene: &Scene, order: &[Company], told: Told) {
     let history = scene.history;
     let phase = history.phase();
     out.begin_as(Tag::Listing, "status");
-    put_next(out, scene);
+    put_next(out, scene, told.due);
     match history.now().round() {
         Some(round) => put_item(out, "Last round", &[Named(round)]),
         None => put_item(out, "Last round", &[Words("none")]),
@@ -99,7 +101,7 @@ pub(crate) fn put_status(out: &mut Writer, scene: &Scene, order: &[Company], sou
     put_count(out, "Bank", history.cash(Party::Bank), "");
     let certificates = certificate_limit(history.seats()) as Money;
     put_count(out, "Certificates", certificates, " at most");
-    put_source(out, source);
+    put_source(out, told.source);
     out.end();
 }
 
@@ -188,8 +190,9 @@ fn put_count(out: &mut Writer, label: &'static str, number: Money, words: &'stat
     put_item(out, label, &[Number(number), Words(words)]);
 }
 
-/// Adds items with the next round and who owes a sheet for it, or how the game ended.
-pub fn put_next(out: &mut Writer, scene: &Scene) {
+/// Adds items with the next round, who owes a sheet for it, and when sheets are due if these words
+/// say it; or how the game ended.
+pub fn put_next(out: &mut Writer, scene: &Scene, due: &[u8]) {
     out.begin_as(Tag::Item, "next");
     let (words, round) = match scene.end {
         End::Awaiting(round) => ("Next round", Some(round)),
@@ -204,9 +207,25 @@ pub fn put_next(out: &mut Writer, scene: &Scene) {
         (None, _) => out.element(Tag::Bold, &[Words("by the broken bank")]),
     }
     out.end();
-    if round.is_some() {
+    if let Some(round) = round {
         put_owing(out, scene);
+        put_due(out, round, due);
     }
+}
+
+/// Adds when the sheets of a round are due, if these words say it.
+fn put_due(out: &mut Writer, round: Round, due: &[u8]) {
+    if due.is_empty() {
+        return;
+    }
+    out.begin_as(Tag::Item, "next");
+    let words = [Words("Sheets for "), Named(round), Words(" are due by")];
+    out.element(Tag::Small, &words);
+    out.put(&[Words(" ")]);
+    out.begin(Tag::Bold);
+    out.text(due);
+    out.end();
+    out.end();
 }
 
 /// Adds who owes a sheet.

@@ -1,5 +1,8 @@
 //! The style of a page, for a screen, a dark screen, and paper.
 
+/// The style of the umpire's words on when sheets are due: a long one is broken.
+pub const STYLE_OF_DUE: &str = ".next b{overflow-wrap:anywhere}";
+
 /// The style of a page. No rule for the content of a `use` depends on an ancestor, since it has
 /// none there.
 pub const STYLE: &str = "\n\

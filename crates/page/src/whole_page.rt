@@ -8,12 +8,13 @@ ghost use Rattle.sheets.specs.File.{IsAccepted};
 use crate::bulletin_part::{bulletin_text, put_bulletin};
 use crate::checksum::{Source, source_of};
 use crate::companies_part::{put_companies, put_owners, put_trains};
+use crate::due::{due_shown, due_told};
 use crate::phases_part::put_phases;
 use crate::players_part::put_players;
 use crate::result_part::put_result;
 use crate::revenue_part::put_revenue;
 use crate::status_part::{self, LINKS};
-use crate::style::STYLE;
+use crate::style::{STYLE, STYLE_OF_DUE};
 use crate::worth_history::{play_to, thinned};
 use desk_base::{DeskFault, Stood, stood_now};
 use desk_state::{all_in_order, before_in_stack};
@@ -40,27 +41,35 @@ enum Form {
     ToHexes(&'static str),
 }
 
-/// What a page shows of the order file besides its game.
+/// What a page shows besides the game of its order file.
 #[derive(Clone, Copy)]
-struct Told<'a> {
+pub(crate) struct Told<'a> {
     form: Form,
-    source: Source,
+    pub(crate) source: Source,
+    /// When sheets are due, in the umpire's words; empty if they did not say.
+    pub(crate) due: &'a [u8],
     /// The bulletin of the round.
     bulletin: &'a [u8],
 }
 
 /// Returns the page of the game of an order file after a round, or after the last one if none is
-/// named: map, routes, stock chart, history, tables and tiles, as one file of HTML.
+/// named: map, routes, stock chart, history, tables and tiles, as one file of HTML. `due` says when
+/// the next sheets are due; it may be empty.
 ///
 /// Fails with `File` if the file is refused, with `Round` if the round was not played, and with
 /// `Memory` if allocation fails.
 #[tactic(auto, using(desk_base::proofs::Refusals::no_state_where_it_fails, desk_base::proofs::Refusals::no_state_of_game))]
-pub fn page(alloc: Global, file: &[u8], asked: Option<Round>) -> Result<Vec<u8>, DeskFault>
+pub fn page(
+    alloc: Global,
+    file: &[u8],
+    asked: Option<Round>,
+    due: &str,
+) -> Result<Vec<u8>, DeskFault>
     ensures accepted { OnOk result (IsAccepted file.now) }
     ensures well_formed { IfOk result (λ page. IsWellFormed page.items) }
     ensures fault { IfErr result (λ fault. HasNoState fault file.now) }
 {
-    let out = begun(alloc, file, asked, Form::Whole)?;
+    let out = begun(alloc, file, asked, due, Form::Whole)?;
     Ok(out.finish()?)
 }
 
@@ -70,50 +79,62 @@ pub fn page_to_hexes(
     alloc: Global,
     file: &[u8],
     asked: Option<Round>,
+    due: &str,
     style: &'static str,
 ) -> Result<Writer, DeskFault>
     ensures accepted { OnOk result (IsAccepted file.now) }
     ensures fault { IfErr result (λ fault. HasNoState fault file.now) }
 {
-    begun(alloc, file, asked, Form::ToHexes(style))
+    begun(alloc, file, asked, due, Form::ToHexes(style))
 }
 
 /// Returns the page of the game of an order file, not yet ended.
 #[tactic(auto, using(desk_base::proofs::Refusals::no_state_where_it_fails, desk_base::proofs::Refusals::no_state_of_game))]
-fn begun(alloc: Global, file: &[u8], asked: Option<Round>, form: Form) -> Result<Writer, DeskFault>
+fn begun(
+    alloc: Global,
+    file: &[u8],
+    asked: Option<Round>,
+    due: &str,
+    form: Form,
+) -> Result<Writer, DeskFault>
     ensures accepted { OnOk result (IsAccepted file.now) }
     ensures fault { IfErr result (λ fault. HasNoState fault file.now) }
 {
     let sheets = collect(alloc, file)?;
-    page_of(alloc, &sheets, source_of(file), asked, form)
+    let due = due_shown(alloc, due)?;
+    let told = Told {
+        form,
+        source: source_of(file),
+        due: due.as_slice(),
+        bulletin: &[],
+    };
+    page_of(alloc, &sheets, asked, told)
 }
 
 /// Returns the page of the game of some sheets, not yet ended.
 fn page_of(
     alloc: Global,
     sheets: &Sheets,
-    source: Source,
     asked: Option<Round>,
-    form: Form,
+    told: Told,
 ) -> Result<Writer, DeskFault>
     ensures { IfErr result IsOfGame }
 {
     let played = play_to(alloc, sheets, asked)?;
-    page_of_play(alloc, &played.play, source, played.entries.as_slice(), form)
+    page_of_play(alloc, &played.play, told, played.entries.as_slice())
 }
 
 /// Returns the page of a game played up to here, with its history round by round.
 fn page_of_play(
     alloc: Global,
     play: &Play,
-    source: Source,
+    told: Told,
     entries: &[Entry],
-    form: Form,
 ) -> Result<Writer, DeskFault>
     ensures { IfErr result IsOfGame }
 {
     match stood_now(play) {
-        Some(stood) => Ok(page_of_stood(alloc, &stood, source, entries, form)?),
+        Some(stood) => Ok(page_of_stood(alloc, &stood, told, entries)?),
         None => Err(DeskFault::Round),
     }
 }
@@ -122,17 +143,18 @@ fn page_of_play(
 fn page_of_stood(
     alloc: Global,
     stood: &Stood,
-    source: Source,
+    told: Told,
     entries: &[Entry],
-    form: Form,
 ) -> Result<Writer, AllocError> {
     let bulletin = bulletin_text(alloc, stood)?;
+    let scene = Scene::of(stood);
     let told = Told {
-        form,
-        source,
+        form: told.form,
+        source: told.source,
+        due: due_told(scene.owe.contains(&true), told.due),
         bulletin: bulletin.as_slice(),
     };
-    page_text(alloc, &Scene::of(stood), told, entries)
+    page_text(alloc, &scene, told, entries)
 }
 
 /// Returns the page of what a scene shows, with the game's history round by round.
@@ -213,12 +235,15 @@ fn begin_page(out: &mut Writer, scene: &Scene, order: &[Company], told: Told) {
     if let Form::ToHexes(style) = told.form {
         out.element(Tag::Style, &[Words(style)]);
     }
+    if !told.due.is_empty() {
+        out.element(Tag::Style, &[Words(STYLE_OF_DUE)]);
+    }
     out.end();
     out.begin(Tag::Body);
     status_part::put_skip(out);
     put_head(out, scene);
     out.begin(Tag::Main);
-    status_part::put_status(out, scene, order, told.source);
+    status_part::put_status(out, scene, order, told);
 }
 
 /// Adds what is above the sections.

@@ -5,11 +5,11 @@ ghost use Rattle.markup.specs.Reading.{IsWellFormed};
 ghost use Rattle.sheets.specs.File.{IsAccepted};
 
 use crate::replayed::{ROUNDS_MOST, Replayed};
-use crate::whole_page::{page_to_hexes, put_hexes};
+use crate::whole_page::{Told, page_to_hexes, put_hexes};
 use best_run::Search;
 use desk_base::{DeskFault, stood_now};
 use markup::{Part, Writer};
-use page::{Source, source_of};
+use page::{Source, due_shown, due_told, source_of};
 use page_map::Scene;
 use rounds::{Play, Step, play};
 use sheets::{Sheets, collect};
@@ -32,17 +32,23 @@ struct Played<'a> {
 }
 
 /// Returns the page of the game of an order file with all its rounds up to one, or to the last if
-/// none is named, and a button for each. Of more than 60 rounds it shows the last 60.
+/// none is named, and a button for each. Of more than 60 rounds it shows the last 60. `due` says
+/// when the next sheets are due; it may be empty.
 ///
 /// Fails with `File` if the file is refused, with `Round` if the round was not played, and with
 /// `Memory` if allocation fails.
 #[tactic(auto, using(desk_base::proofs::Refusals::no_state_where_it_fails, desk_base::proofs::Refusals::no_state_of_game))]
-pub fn page_of_all(alloc: Global, file: &[u8], asked: Option<Round>) -> Result<Vec<u8>, DeskFault>
+pub fn page_of_all(
+    alloc: Global,
+    file: &[u8],
+    asked: Option<Round>,
+    due: &str,
+) -> Result<Vec<u8>, DeskFault>
     ensures accepted { OnOk result (IsAccepted file.now) }
     ensures well_formed { IfOk result (λ page. IsWellFormed page.items) }
     ensures fault { IfErr result (λ fault. HasNoState fault file.now) }
 {
-    let page = begun(alloc, file, asked, None)?;
+    let page = begun(alloc, file, asked, due, None)?;
     Ok(ended_page(page)?)
 }
 
@@ -52,12 +58,13 @@ pub fn page_of_all_to_hexes(
     alloc: Global,
     file: &[u8],
     asked: Option<Round>,
+    due: &str,
     style: &'static str,
 ) -> Result<PageToHexes, DeskFault>
     ensures accepted { OnOk result (IsAccepted file.now) }
     ensures fault { IfErr result (λ fault. HasNoState fault file.now) }
 {
-    begun(alloc, file, asked, Some(style))
+    begun(alloc, file, asked, due, Some(style))
 }
 
 /// Adds the hexes in words, and ends a page.
@@ -76,13 +83,19 @@ fn begun(
     alloc: Global,
     file: &[u8],
     asked: Option<Round>,
+    due: &str,
     style: Option<&'static str>,
 ) -> Result<PageToHexes, DeskFault>
     ensures accepted { OnOk result (IsAccepted file.now) }
     ensures fault { IfErr result (λ fault. HasNoState fault file.now) }
 {
     let sheets = collect(alloc, file)?;
-    page_of(alloc, &sheets, source_of(file), asked, style)
+    let due = due_shown(alloc, due)?;
+    let told = Told {
+        due: due.as_slice(),
+        style,
+    };
+    page_of(alloc, &sheets, source_of(file), asked, told)
 }
 
 /// Returns the page of all rounds of the game of some sheets, up to its hexes in words.
@@ -91,12 +104,12 @@ fn page_of(
     sheets: &Sheets,
     source: Source,
     asked: Option<Round>,
-    style: Option<&'static str>,
+    told: Told,
 ) -> Result<PageToHexes, DeskFault>
     ensures { IfErr result IsOfGame }
 {
     let played = play_to(alloc, sheets, source, asked)?;
-    page_of_play(alloc, &played.play, &played.replayed, style)
+    page_of_play(alloc, &played.play, &played.replayed, told)
 }
 
 /// Plays the game of some sheets up to the end of a round, or as far as they go if none is named,
@@ -169,12 +182,12 @@ fn page_of_play(
     alloc: Global,
     play: &Play,
     replayed: &Replayed,
-    style: Option<&'static str>,
+    told: Told,
 ) -> Result<PageToHexes, DeskFault>
     ensures { IfErr result IsOfGame }
 {
     match stood_now(play) {
-        Some(stood) => Ok(page_of_scene(alloc, &Scene::of(&stood), replayed, style)?),
+        Some(stood) => Ok(page_of_scene(alloc, &Scene::of(&stood), replayed, told)?),
         None => Err(DeskFault::Round),
     }
 }
@@ -184,10 +197,14 @@ fn page_of_scene(
     alloc: Global,
     scene: &Scene,
     replayed: &Replayed,
-    style: Option<&'static str>,
+    told: Told,
 ) -> Result<PageToHexes, AllocError> {
+    let told = Told {
+        due: due_told(scene.owe.contains(&true), told.due),
+        style: told.style,
+    };
     Ok(PageToHexes {
-        out: page_to_hexes(alloc, scene, replayed, style)?,
+        out: page_to_hexes(alloc, scene, replayed, told)?,
         hexes: replayed.hex_words(alloc)?,
     })
 }

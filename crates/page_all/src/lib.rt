@@ -13,7 +13,7 @@
 //! The page of all rounds of an order file in memory, `FIRST`:
 //!
 //! ```
-//! let Ok(text) = page_of_all(rt.alloc(), FIRST.as_bytes(), None) else {
+//! let Ok(text) = page_of_all(rt.alloc(), FIRST.as_bytes(), None, "") else {
 //!     panic!(rt; "no page")
 //! };
 //! assert!(rt; text.as_slice().starts_with(b"<!DOCTYPE html>\n"));

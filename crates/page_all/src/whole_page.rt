@@ -13,7 +13,9 @@ use crate::style::{
 use map_tables::Hex;
 use markup::PagePiece::{Count, Hex as Hexed, Round as Named, Words};
 use markup::{Attr, Part, Tag, Writer, begin_plain_section, begin_section};
-use page::{STYLE, players_of, put_links, put_names, put_next, put_skip, put_source, thinned};
+use page::{
+    STYLE, STYLE_OF_DUE, players_of, put_links, put_names, put_next, put_skip, put_source, thinned,
+};
 use page_charts::{begin_chart, end_chart, put_history};
 use page_map::{Scene, begin_hex, begin_hexes, begin_picture, end_map, put_borders, put_key};
 use picture::{centre, city_name};
@@ -21,21 +23,30 @@ use replay::{Lasting, put_button, put_button_words, put_replay, put_rules, repla
 use std::alloc::{AllocError, Global};
 use std::collections::VecDeque;
 
+/// What a page shows besides the rounds of its order file.
+#[derive(Clone, Copy)]
+pub(crate) struct Told<'a> {
+    /// When sheets are due, in the umpire's words; empty if they did not say.
+    pub(crate) due: &'a [u8],
+    /// The style of a page for a script.
+    pub(crate) style: Option<&'static str>,
+}
+
 /// Returns the page of some rounds up to its hexes in words, given the game at their end. With a
 /// style it is a page for a script, and the style follows that of all pages.
 pub(crate) fn page_to_hexes(
     alloc: Global,
     scene: &Scene,
     replayed: &Replayed,
-    style: Option<&'static str>,
+    told: Told,
 ) -> Result<Writer, AllocError> {
     let entries = thinned(alloc, replayed.entries.as_slice())?;
-    let mut out = match style {
+    let mut out = match told.style {
         None => Writer::page(alloc),
         Some(_) => Writer::scripted_page(alloc),
     };
-    begin_page(&mut out, scene, replayed, style);
-    replayed.put_status(alloc, &mut out, scene)?;
+    begin_page(&mut out, scene, replayed, told);
+    replayed.put_status(alloc, &mut out, scene, told.due)?;
     replayed.put_layer(alloc, &mut out, Layer::Result, Tag::Division)?;
     replayed.put_map(alloc, &mut out)?;
     replayed.put_routes(alloc, &mut out)?;
@@ -62,7 +73,7 @@ const LINKS: [(&str, &str); 11] = [
 ];
 
 /// Adds what stands before the sections: the title, the buttons and the head.
-fn begin_page(out: &mut Writer, scene: &Scene, replayed: &Replayed, style: Option<&'static str>) {
+fn begin_page(out: &mut Writer, scene: &Scene, replayed: &Replayed, told: Told) {
     put_title(out, replayed, Tag::Title);
     out.element(Tag::Style, &[Words(STYLE)]);
     out.begin(Tag::Style);
@@ -71,12 +82,15 @@ fn begin_page(out: &mut Writer, scene: &Scene, replayed: &Replayed, style: Optio
     put_lines_style(out);
     put_rules(out, replayed.last());
     put_boxes(out, replayed);
-    if style.is_some() {
+    if told.style.is_some() {
         put_moves_style(out, replayed.last());
     }
     out.end();
-    if let Some(style) = style {
+    if let Some(style) = told.style {
         out.element(Tag::Style, &[Words(style)]);
+    }
+    if !told.due.is_empty() {
+        out.element(Tag::Style, &[Words(STYLE_OF_DUE)]);
     }
     out.end();
     out.begin(Tag::Body);
@@ -172,9 +186,15 @@ impl Replayed {
         Ok(())
     }
 
-    /// Adds how the game stands in short: what stays as it is at the end of the file, and what
-    /// changes.
-    fn put_status(&self, alloc: Global, out: &mut Writer, scene: &Scene) -> Result<(), AllocError> {
+    /// Adds how the game stands in short: what stays as it is at the end of the file, with when
+    /// sheets are due, and what changes.
+    fn put_status(
+        &self,
+        alloc: Global,
+        out: &mut Writer,
+        scene: &Scene,
+        due: &[u8],
+    ) -> Result<(), AllocError> {
         out.begin_as(Tag::Listing, "status");
         for (number, words) in STATUS.iter().enumerate() {
             out.begin(Tag::Item);
@@ -186,7 +206,7 @@ impl Replayed {
             out.end();
             out.end();
         }
-        put_next(out, scene);
+        put_next(out, scene, due);
         put_source(out, self.source);
         out.end();
         Ok(())

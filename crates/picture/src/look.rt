@@ -3,6 +3,7 @@ ghost use Rattle.std.specs.Prelude.{◌≡◌, ◌<◌};
 ghost use Rattle.map_tables.specs.Lay.{laid_links_of};
 ghost use Rattle.map_tables.specs.OnMap.{links_on, tile_on};
 ghost use Rattle.map_tables.specs.Print.{printed_links_of};
+ghost use Rattle.picture.specs.Looks.{shade_of, stops_of, shade_on, stops_on, count_on, slots_on, value_on};
 
 use crate::bend::{Bend, bend_between};
 use crate::point::{Ring, on_ring};
@@ -62,6 +63,11 @@ impl Look {
     pub fn on(lays: &[Lay], hex: Hex) -> Look
         ensures links { result.links.items ≡ links_on lays.now hex }
         ensures lay { result.lay ≡ tile_on lays.now hex }
+        ensures shade { result.shade ≡ shade_on (tile_on lays.now hex) hex }
+        ensures stops { result.stops ≡ stops_on (tile_on lays.now hex) hex }
+        ensures count { result.count ≡ count_on (tile_on lays.now hex) hex }
+        ensures slots { result.slots ≡ slots_on (tile_on lays.now hex) hex }
+        ensures value { result.value ≡ value_on (tile_on lays.now hex) hex }
     {
         match tile_on(lays, hex) {
             Some(lay) => Look::laid(lay),
@@ -71,8 +77,14 @@ impl Look {
 
     /// Returns what a tile shows on its hex.
     pub fn laid(lay: Lay) -> Look
+        ensures hex { result.hex ≡ lay.hex }
         ensures links { result.links.items ≡ laid_links_of lay }
         ensures lay { result.lay ≡ Some lay }
+        ensures shade { result.shade ≡ shade_on (Some lay) lay.hex }
+        ensures stops { result.stops ≡ stops_on (Some lay) lay.hex }
+        ensures count { result.count ≡ count_on (Some lay) lay.hex }
+        ensures slots { result.slots ≡ slots_on (Some lay) lay.hex }
+        ensures value { result.value ≡ value_on (Some lay) lay.hex }
     {
         let entry = tile(lay.tile);
         Look {
@@ -89,13 +101,18 @@ impl Look {
 
     /// Returns what is printed on a hex.
     pub fn printed(hex: Hex) -> Look
+        ensures hex { result.hex ≡ hex }
         ensures links { result.links.items ≡ printed_links_of hex }
         ensures lay { result.lay ≡ None }
+        ensures shade { result.shade ≡ shade_on None hex }
+        ensures stops { result.stops ≡ stops_on None hex }
+        ensures count { result.count ≡ count_on None hex }
+        ensures slots { result.slots ≡ slots_on None hex }
+        ensures value { result.value ≡ value_on None hex }
     {
-        let slots = printed_slots(hex);
         let (shade, stops) = match hex_kind(hex) {
             HexKind::Open(kind) => (shade_of(printed_colour(hex)), stops_of(kind)),
-            HexKind::Grey if slots > 0 => (Shade::Grey, Stops::Cities),
+            HexKind::Grey if printed_slots(hex) > 0 => (Shade::Grey, Stops::Cities),
             HexKind::Grey => (Shade::Grey, Stops::Towns),
             HexKind::Red => (Shade::Red, Stops::Area),
         };
@@ -106,7 +123,7 @@ impl Look {
             shade,
             stops,
             count: printed_stops(hex),
-            slots,
+            slots: printed_slots(hex),
             value: printed_value(hex).before_phase_five,
         }
     }
@@ -296,7 +313,9 @@ fn side_to(link: &Link, stop: StopNumber) -> Option<Side> {
 }
 
 /// Returns the ground of a colour.
-fn shade_of(colour: Colour) -> Shade {
+fn shade_of(colour: Colour) -> Shade
+    ensures { result ≡ shade_of colour }
+{
     match colour {
         Colour::White => Shade::White,
         Colour::Yellow => Shade::Yellow,
@@ -306,7 +325,9 @@ fn shade_of(colour: Colour) -> Shade {
 }
 
 /// Returns what the stops of a hex of a kind are.
-fn stops_of(kind: TileKind) -> Stops {
+fn stops_of(kind: TileKind) -> Stops
+    ensures { result ≡ stops_of kind }
+{
     match kind {
         TileKind::Plain | TileKind::Town | TileKind::TwoTowns => Stops::Towns,
         TileKind::City | TileKind::CityB | TileKind::CitiesNY | TileKind::CitiesOO => Stops::Cities,

@@ -50,7 +50,7 @@ fn desk_moves_reads_words(rt: HostRuntime) {
 
 #[test]
 fn page_is_html(rt: HostRuntime) {
-    let Ok(text) = page(rt.alloc(), FIRST.as_bytes(), None) else {
+    let Ok(text) = page(rt.alloc(), FIRST.as_bytes(), None, "") else {
         panic!(rt; "no page")
     };
     assert!(rt; text.as_slice().starts_with(b"<!DOCTYPE html>\n"));
@@ -58,7 +58,7 @@ fn page_is_html(rt: HostRuntime) {
 
 #[test]
 fn page_all_is_html(rt: HostRuntime) {
-    let Ok(text) = page_of_all(rt.alloc(), FIRST.as_bytes(), None) else {
+    let Ok(text) = page_of_all(rt.alloc(), FIRST.as_bytes(), None, "") else {
         panic!(rt; "no page")
     };
     assert!(rt; text.as_slice().starts_with(b"<!DOCTYPE html>\n"));

@@ -1,7 +1,7 @@
 use Rattle.std.proofs.Common.{◌≡◌, false, take}
 use Rattle.std.specs.List.{list_any}
-use Rattle.desk_round.specs.Played.{begins}
-use Rattle.desk_round.proofs.played.was_played.Given as goal
+use Rattle.desk_base.specs.Played.{begins}
+use Rattle.desk_base.proofs.played.was_played.Given as goal
 
 -- none of the events so far begins the round
 abbrev pub invariant-loop-event : goal.invariant-loop-event

@@ -1,0 +1,68 @@
+-- What shows in a hex beside its track: the ground, what its stops are, how many, how many slots
+-- each has, and what each is worth. That is what the tile on the hex has, or its print.
+use Rattle.std.specs.Prelude.{ℕ, Option, None, Some, ltb, Bool, if◌then◌else◌}
+use Rattle.map_tables.specs.declared.hex.Hex.{Hex}
+use Rattle.map_tables.specs.declared.lay.Lay.{Lay}
+use Rattle.map_tables.specs.declared.print.HexKind.{HexKind}
+use Rattle.map_tables.specs.declared.print.HexKind.TheVariants.{Open, Grey, Red}
+use Rattle.map_tables.specs.declared.tiles.Colour.{Colour}
+use Rattle.map_tables.specs.declared.tiles.Colour.TheVariants as colour
+use Rattle.map_tables.specs.declared.tiles.TileKind.{TileKind}
+use Rattle.map_tables.specs.declared.tiles.TileKind.TheVariants.{Plain, Town, TwoTowns, City, CityB, CitiesNY, CitiesOO}
+use Rattle.map_tables.specs.Print.{Print, print_of}
+use Rattle.map_tables.specs.Tile.{entry_of, stops_of_kind}
+use Rattle.picture.specs.declared.look.Shade.{Shade}
+use Rattle.picture.specs.declared.look.Shade.TheVariants as shade
+use Rattle.picture.specs.declared.look.Stops.{Stops}
+use Rattle.picture.specs.declared.look.Stops.TheVariants as stops
+
+-- the ground of a colour
+abbrev pub shade_of : Colour → Shade
+shade_of colour.White = shade.White
+shade_of colour.Yellow = shade.Yellow
+shade_of colour.Green = shade.Green
+shade_of colour.Brown = shade.Brown
+
+-- what the stops of a hex of a kind are
+abbrev pub stops_of : TileKind → Stops
+stops_of Plain = stops.Towns
+stops_of Town = stops.Towns
+stops_of TwoTowns = stops.Towns
+stops_of City = stops.Cities
+stops_of CityB = stops.Cities
+stops_of CitiesNY = stops.Cities
+stops_of CitiesOO = stops.Cities
+
+-- the ground of a printed hex: a hex that takes tiles has the colour of its print
+abbrev shade_in : HexKind → Colour → Shade
+shade_in (Open _) colour = shade_of colour
+shade_in Grey _ = shade.Grey
+shade_in Red _ = shade.Red
+
+-- what the stops of a printed hex are: a grey one with slots has a city
+abbrev stops_in : HexKind → ℕ → Stops
+stops_in (Open kind) _ = stops_of kind
+stops_in Grey slots = if ltb 0 slots then stops.Cities else stops.Towns
+stops_in Red _ = stops.Area
+
+-- what shows on a hex: its tile's part, if one lies there, or its print's
+abbrev pub shade_on : Option Lay → Hex → Shade
+shade_on (Some lay) _ = shade_of (entry_of lay.tile).colour
+shade_on None hex = shade_in (print_of hex).kind (print_of hex).colour
+
+abbrev pub stops_on : Option Lay → Hex → Stops
+stops_on (Some lay) _ = stops_of (entry_of lay.tile).kind
+stops_on None hex = stops_in (print_of hex).kind (print_of hex).slots
+
+abbrev pub count_on : Option Lay → Hex → ℕ
+count_on (Some lay) _ = stops_of_kind (entry_of lay.tile).kind
+count_on None hex = (print_of hex).stops
+
+abbrev pub slots_on : Option Lay → Hex → ℕ
+slots_on (Some lay) _ = (entry_of lay.tile).slots
+slots_on None hex = (print_of hex).slots
+
+-- the worth of a red area is that before phase 5
+abbrev pub value_on : Option Lay → Hex → ℕ
+value_on (Some lay) _ = (entry_of lay.tile).value
+value_on None hex = (print_of hex).value.before_phase_five
