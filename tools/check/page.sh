@@ -23,6 +23,16 @@ play_page() {
   judge "$name" "$(($(wc -c < "$scratch/page") == 0))" 0 "$1" none
 }
 
+# play_alike FILE: the page of a game with some words is that of another. NAME.as has the name of that page, the game and the words.
+play_alike() {
+  local name=${1%.as} alike orders words
+  read -r alike orders words < "$1"
+  # shellcheck disable=SC2086
+  "$desk" page $words < "games/$orders.orders" > "$scratch/page" 2> "$scratch/err"
+  unstyled < "$scratch/page" > "$scratch/out"
+  judge "$name" "$(($(wc -c < "$scratch/page") == 0))" 0 "games/page/$alike.html" none
+}
+
 # told_of GAME FOLDER: what the desk tells of a game: its page, its state, and the runs of its last operating round.
 told_of() {
   local orders=games/$1.orders round word
@@ -134,6 +144,7 @@ check_page() {
   local games=("${read_games[@]}")
   [ "${1:-}" != quick ] || games=("${read_games[@]:0:3}") lays_games=("${lays_games[@]:0:2}")
   side_by_side play_page games/page/*.html
+  side_by_side play_alike games/page/*.as
   side_by_side read_game "${games[@]}"
   side_by_side play_lays games/page/*.lays
   side_by_side read_lays "${lays_games[@]}"

@@ -1,6 +1,6 @@
 -- Which rounds a play has played so far: once no round can be played next, these are all that the game
 -- of its file has.
-use Rattle.std.proofs.Common.{◌≡◌, ℕ, Bool, true, false, List, [], ◌∷◌, ◌++◌, Ok, Option, Some, None, is_some, refl, sym, ap, subst}
+use Rattle.std.proofs.Common.{◌≡◌, ℕ, Bool, true, false, List, [], ◌∷◌, Ok, Option, Some, None, is_some, refl, sym, ap, subst}
 use Rattle.std.proofs.Common.{◌∙◌, ◌||◌, true≢false}
 use Rattle.std.proofs.Math.Bool.{or-true}
 use Rattle.std.proofs.lemmas.Bool.{or_parts}
@@ -22,7 +22,7 @@ use Rattle.events.specs.declared.event.Event.{Event}
 use Rattle.events.specs.declared.event.Event.TheVariants as event
 use Rattle.operating.specs.Laws.{BeginsNoRound}
 use Rattle.rounds.proofs.StepByStep.{same_place, steps_reach}
-use Rattle.rounds.specs.Begun.{AddsRound, RoundsOnlyAdd}
+use Rattle.rounds.specs.Begun.{RoundsOnlyAdd}
 use Rattle.rounds.specs.Play.{Between, IsTheGame, OneGame, Played, Plays, before_play, end_of, goes_on}
 use Rattle.rounds.specs.Steps.{ComesNext, PlaysNext, Stays, Underway, game_so_far, game_there, started}
 use Rattle.rounds.specs.declared.following.Next.{Next}

@@ -24,7 +24,7 @@ abbrev pub is_held : List Event → Kind → Bool
 is_held events kind = list_any (λ company. lt_z (pos 0) (trains_held events (Some company) kind)) companies
 
 -- it is still to come, and takes a train from some company
-abbrev pub is_to_come : List Event → Fall → Bool
+unfoldable pub is_to_come : List Event → Fall → Bool
 is_to_come events fall =
     nat_lt (index_of_kind (phase_of events)) (index_of_kind fall.falls_with) && is_held events fall.kind
 

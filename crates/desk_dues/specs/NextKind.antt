@@ -4,7 +4,7 @@
 use Rattle.std.specs.Prelude.{ℕ, ◌+◌, ◌-◌, ◌==◌, Bool, ◌&&◌, nat_lt, if◌then◌else◌, List, [], ◌∷◌, Option, Some, None}
 use Rattle.std.specs.Prelude.{option_map, is_some, sum_by, pos, ℤ, ◌-ℤ◌}
 use Rattle.std.specs.List.{list_any}
-use Rattle.desk_dues.specs.declared.next_kind.NextKind.{NextKind}
+use Rattle.desk_dues.specs.declared.coming_kind.NextKind.{NextKind}
 use Rattle.events.specs.declared.event.Event.{Event}
 use Rattle.map_tables.specs.declared.tiles.Colour.{Colour}
 use Rattle.map_tables.specs.declared.tiles.Colour.TheVariants.{Green, Brown}
@@ -86,9 +86,12 @@ abbrev pub rusting_held : List Event → Company → Option Kind → ℤ
 rusting_held events company None = pos 0
 rusting_held events company (Some kind) = trains_held events (Some company) kind
 
+-- how many trains a company has once those have rusted that rust with the first train of a kind
+abbrev pub kept_with : List Event → Company → Kind → ℤ
+kept_with events company new =
+    train_count events (Some company) -ℤ rusting_held events company (rusted_with new)
+
 -- how many trains a company has to discard with the first train of a kind: those over the limit of
--- its phase, once others have rusted
+-- its phase
 abbrev pub discarded_with : List Event → Company → Kind → ℕ
-discarded_with events company new =
-    at_least_zero ((train_count events (Some company) -ℤ rusting_held events company (rusted_with new))
-    -ℤ pos (limit_of new))
+discarded_with events company new = at_least_zero (kept_with events company new -ℤ pos (limit_of new))

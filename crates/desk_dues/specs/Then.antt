@@ -27,7 +27,7 @@ is_pooled_then events new kind =
     lt_z (pos 0) (trains_held events None kind) && not (are_gone_with new (rusting_of kind))
 
 -- the pool has a train of a kind then that is cheaper than those of the bank
-abbrev pub is_cheaper_then : List Event → Kind → Kind → Bool
+unfoldable pub is_cheaper_then : List Event → Kind → Kind → Bool
 is_cheaper_then events new kind =
     nat_lt (index_of_kind kind) (index_of_kind (least_then events new)) && is_pooled_then events new kind
 

@@ -1,13 +1,14 @@
 //! The companies that would be left without a train, and what each would have to pay.
-ghost use Rattle.std.specs.Prelude.{◌≡◌, ◌≤◌, ◌<◌, ◌+◌, ◌++◌, length, pos};
-ghost use Rattle.desk_dues.specs.Dangers.{company_left_without, danger_for, danger_to, dangers_of, is_beyond};
-ghost use Rattle.desk_dues.specs.Dangers.{lacking_for};
+ghost use Rattle.std.specs.Prelude.{◌≡◌, ◌≤◌, ◌<◌, ◌+◌, ◌++◌, ◌^◌, ◌-ℤ◌, ◌≤ℤ◌, length, neg_ℤ, pos};
+ghost use Rattle.desk_dues.specs.Dangers.{company_left_without, danger_for, danger_to, dangers_of};
+ghost use Rattle.desk_dues.specs.Dangers.{has_no_other, is_beyond, lacking_for};
+ghost use Rattle.desk_dues.specs.Raised.{raised_at_most_by};
 ghost use Rattle.std.specs.List.{flat_map};
 ghost use Rattle.tables.specs.Roster.{companies};
 
 use crate::fall::{Fall, next_fall};
 use crate::raised::raised_at_most;
-use crate::then::cheapest_then;
+use crate::then::{cheapest_then, least_then};
 use arrayvec::ArrayVec;
 use forced_purchase::Operator;
 use history::{History, Party, TrainCount};
@@ -28,6 +29,8 @@ pub struct Danger {
     pub falls_with: Kind,
     /// The train that it would have to buy then, the cheapest that the bank or the pool sells.
     pub buys: Kind,
+    /// Whether it buys that train from the pool.
+    pub pooled: bool,
     /// What that train costs.
     pub price: Amount,
     /// What the company has.
@@ -93,8 +96,14 @@ fn put_danger(
 fn is_left_without(history: &History, kind: Kind, company: Company) -> bool
     ensures { result ≡ company_left_without history.now.events kind company }
 {
-    let trains = history.trains(Some(company), kind);
-    trains > 0 && trains >= history.now().train_count(Some(company))
+    history.trains(Some(company), kind) > 0 && has_no_other(history, kind, company)
+}
+
+/// Returns whether a company has no train of another kind.
+fn has_no_other(history: &History, kind: Kind, company: Company) -> bool
+    ensures { result ≡ has_no_other history.now.events kind company }
+{
+    history.now().train_count(Some(company)) <= history.trains(Some(company), kind)
 }
 
 /// Returns what a company would have to pay for a train of the kind that it buys then.
@@ -108,6 +117,7 @@ fn danger_for(history: &History, fall: Fall, by: Operator, buys: Kind) -> Danger
         trains: history.trains(Some(by.company), fall.kind),
         falls_with: fall.falls_with,
         buys,
+        pooled: buys != least_then(history, fall.falls_with),
         price: train(buys).price,
         cash: history.cash(Party::of_company(by.company)),
         lacking: lacking_for(history, by.company, buys),
@@ -119,15 +129,26 @@ fn danger_for(history: &History, fall: Fall, by: Operator, buys: Kind) -> Danger
 
 /// Returns what a company lacks for a train of a kind, in dollars; 0 or less if it has enough.
 fn lacking_for(history: &History, company: Company, kind: Kind) -> Money
-    ensures { result ≡ lacking_for history.now company kind }
+    ensures value { result ≡ lacking_for history.now company kind }
+    ensures not_under { neg_ℤ (pos (2 ^ 101)) ≤ℤ result }
+    ensures not_over { result ≤ℤ pos (2 ^ 101) }
 {
     Money::from(train(kind).price) - history.cash(Party::of_company(company))
 }
 
-/// Returns whether a president's cash and what they can raise are less than the company lacks.
+/// Returns whether a president's cash is less than what the company lacks beyond what they can
+/// raise.
 fn is_beyond(history: &History, by: Operator, kind: Kind) -> bool
     ensures { result ≡ is_beyond history.now by kind }
 {
-    let most = history.now().free_cash(by.president) + Money::from(raised_at_most(history, by));
-    most < lacking_for(history, by.company, kind)
+    let beyond = beyond_raised(history, by, kind);
+    history.now().free_cash(by.president) < beyond
+}
+
+/// Returns what a company lacks for a train of a kind beyond what its president can raise, in
+/// dollars; 0 or less if that is enough.
+fn beyond_raised(history: &History, by: Operator, kind: Kind) -> Money
+    ensures { result ≡ lacking_for history.now by.company kind -ℤ pos (raised_at_most_by history.now by) }
+{
+    lacking_for(history, by.company, kind) - Money::from(raised_at_most(history, by))
 }

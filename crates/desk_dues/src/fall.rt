@@ -1,5 +1,5 @@
 //! The next kind of train whose first sale takes trains from companies.
-ghost use Rattle.std.specs.Prelude.{◌≡◌};
+ghost use Rattle.std.specs.Prelude.{◌≡◌, find};
 ghost use Rattle.desk_dues.specs.Fall.{is_held, is_to_come, next_fall_of};
 
 use history::History;
@@ -35,13 +35,21 @@ const FALLS: [Fall; 3] = [
 pub fn next_fall(history: &History) -> Option<Fall>
     ensures { result ≡ next_fall_of history.now.events }
 {
-    FALLS
+    first_to_come(history, &FALLS)
+}
+
+/// Returns the first of some falls that is still to come and takes a train from some company.
+fn first_to_come(history: &History, among: &[Fall]) -> Option<Fall>
+    ensures { result ≡ find (is_to_come history.now.events) among.now }
+{
+    among
         .iter()
         .copied()
         .find(|fall| is_to_come(history, *fall))
 }
 
 /// Returns whether a fall is still to come, and takes a train from some company.
+#[tactic(auto, unfolding(crate::specs::Fall::is_to_come))]
 fn is_to_come(history: &History, fall: Fall) -> bool
     ensures { result ≡ is_to_come history.now.events fall }
 {

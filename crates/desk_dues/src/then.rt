@@ -1,5 +1,5 @@
 //! The train that a company without one must buy once the first train of a kind has been sold.
-ghost use Rattle.std.specs.Prelude.{◌≡◌};
+ghost use Rattle.std.specs.Prelude.{◌≡◌, find};
 ghost use Rattle.desk_dues.specs.Then.{are_gone_with, cheapest_then, is_cheaper_then, is_pooled_then, least_then};
 ghost use Rattle.purchases.specs.Train.{is_left};
 
@@ -11,15 +11,25 @@ use tables::{Kind, rusts, train};
 pub(crate) fn cheapest_then(history: &History, new: Kind) -> Kind
     ensures { result ≡ cheapest_then history.now.events new }
 {
-    Kind::ALL
+    match first_cheaper(history, new, &Kind::ALL) {
+        Some(kind) => kind,
+        None => least_then(history, new),
+    }
+}
+
+/// Returns the first of some kinds of which the pool has a train then that is cheaper than those of
+/// the bank.
+fn first_cheaper(history: &History, new: Kind, among: &[Kind]) -> Option<Kind>
+    ensures { result ≡ find (is_cheaper_then history.now.events new) among.now }
+{
+    among
         .iter()
         .copied()
         .find(|kind| is_cheaper_then(history, new, *kind))
-        .unwrap_or(least_then(history, new))
 }
 
 /// Returns the least kind that the bank sells then.
-fn least_then(history: &History, new: Kind) -> Kind
+pub(crate) fn least_then(history: &History, new: Kind) -> Kind
     ensures { result ≡ least_then history.now.events new }
 {
     if new == Kind::Diesel && is_left(history, Kind::Six) {
@@ -40,6 +50,7 @@ fn is_left(history: &History, kind: Kind) -> bool
 }
 
 /// Returns whether the pool has a train of a kind then that is cheaper than those of the bank.
+#[tactic(auto, unfolding(crate::specs::Then::is_cheaper_then))]
 fn is_cheaper_then(history: &History, new: Kind, kind: Kind) -> bool
     ensures { result ≡ is_cheaper_then history.now.events new kind }
 {

@@ -2,8 +2,8 @@
 //!
 //! The figures are those of the other modules; the games of `games/desk/` test the words.
 
+use crate::coming_kind::{NextKind, discarded_with, left_before, next_kind};
 use crate::danger::{Danger, dangers};
-use crate::next_kind::{NextKind, discarded_with, left_before, next_kind};
 use crate::words::Word::{Name, Number, Words};
 use history::History;
 use map_tables::Colour;
@@ -12,8 +12,8 @@ use sheets::Sheets;
 use std::alloc::{AllocError, Global};
 use tables::{Company, Kind, Money};
 
-/// The heading above what the next train brings.
-pub const NEXT_TRAIN: &str = "WHAT THE NEXT TRAIN BRINGS";
+/// The heading above what the next train brings, with an empty line before it.
+const HEADING: &str = "\nWHAT THE NEXT TRAIN BRINGS\n";
 
 /// Numbers as words; a company or the bank has fewer trains.
 static NUMBERS: [&str; 7] = ["no", "one", "two", "three", "four", "five", "six"];
@@ -27,6 +27,22 @@ enum Word<'a> {
     Name(&'a [u8]),
     /// A number in digits.
     Number(Money),
+}
+
+/// Returns what `next_train_lines` returns below a heading, or nothing if that is empty. Fails only
+/// if allocation fails.
+pub fn next_train_text(
+    alloc: Global,
+    sheets: &Sheets,
+    history: &History,
+) -> Result<Vec<u8>, AllocError> {
+    let lines = next_train_lines(alloc, sheets, history)?;
+    let mut out = Vec::new(alloc);
+    if !lines.is_empty() {
+        out.extend_from_slice(HEADING.as_bytes())?;
+        out.extend_from_slice(lines.as_slice())?;
+    }
+    Ok(out)
 }
 
 /// Returns what the next train brings, a paragraph a line: what the first train of the next kind
@@ -64,41 +80,57 @@ fn push_dangers(out: &mut Vec<u8>, sheets: &Sheets, history: &History) -> Result
     Ok(())
 }
 
-/// Adds when the first train of a kind comes, on a line.
+/// Adds when the first train of a kind comes that is not on sale yet, on a line.
 fn push_when(out: &mut Vec<u8>, history: &History, kind: Kind) -> Result<(), AllocError> {
-    put(
-        out,
-        &[Words("The first "), Words(kind.code()), Words(" comes")],
-    )?;
-    push_before(out, history, kind)?;
+    let head = [Words("The first "), Words(kind.code()), Words(" comes")];
+    put(out, &head)?;
+    push_before(out, history, kind, " after ")?;
     put(out, &[Words(".\n")])
 }
 
-/// Adds the trains that the bank sells before the first of a kind: ` after two 5s and one 6`; or
-/// that the bank sells it now. Fails only if allocation fails.
-pub fn push_before(out: &mut Vec<u8>, history: &History, new: Kind) -> Result<(), AllocError> {
-    let mut before = 0;
-    for kind in &Kind::ALL {
-        if left_before(history, new, *kind) > 0 {
-            before = kind.index();
-        }
-    }
-    let mut joint = " after ";
+/// Adds the trains that the bank sells before the first of a kind, with a word in front: ` after
+/// two 5s and one 6`; nothing if it sells the kind now.
+fn push_before(
+    out: &mut Vec<u8>,
+    history: &History,
+    new: Kind,
+    head: &str,
+) -> Result<(), AllocError> {
+    let last = last_before(history, new);
+    let mut joint = head;
     for kind in &Kind::ALL {
         let left = left_before(history, new, *kind);
         if left > 0 {
-            if kind.index() == before && joint != " after " {
-                joint = " and ";
-            }
             put(out, &[Words(joint)])?;
             push_trains(out, left, *kind)?;
-            joint = ", ";
+            joint = if is_next_to(*kind, last) {
+                " and "
+            } else {
+                ", "
+            };
         }
     }
-    if joint == " after " {
-        put(out, &[Words(" now")])?;
-    }
     Ok(())
+}
+
+/// Returns the last kind of which the bank sells some before the first of another; `None` if it
+/// sells that one now.
+fn last_before(history: &History, new: Kind) -> Option<Kind> {
+    let mut last = None;
+    for kind in &Kind::ALL {
+        if left_before(history, new, *kind) > 0 {
+            last = Some(*kind);
+        }
+    }
+    last
+}
+
+/// Returns whether a kind comes just before the last one.
+fn is_next_to(kind: Kind, last: Option<Kind>) -> bool {
+    match last {
+        Some(last) => kind.index().saturating_add(1) == last.index(),
+        None => false,
+    }
 }
 
 /// Adds a number of trains of a kind: `two 5s`.
@@ -149,15 +181,11 @@ pub fn push_next_kind(
 
 /// Adds when the first train of the next kind comes, before what it changes.
 fn push_when_next(out: &mut Vec<u8>, history: &History, kind: Kind) -> Result<(), AllocError> {
-    put(
-        out,
-        &[
-            Words("The first "),
-            Words(kind.code()),
-            Words(", which comes"),
-        ],
-    )?;
-    push_before(out, history, kind)
+    put(out, &[Words("The first "), Words(kind.code())])?;
+    if last_before(history, kind).is_none() {
+        return put(out, &[Words(", which is on sale now")]);
+    }
+    push_before(out, history, kind, ", which comes after ")
 }
 
 /// The changes of a phase, as they are added to a sentence.
@@ -231,7 +259,11 @@ pub fn push_danger(out: &mut Vec<u8>, sheets: &Sheets, danger: &Danger) -> Resul
             Words(danger.falls_with.code()),
             Words(". It would have to buy a "),
             Words(danger.buys.code()),
-            Words(" for "),
+            Words(if danger.pooled {
+                " from the pool for "
+            } else {
+                " for "
+            }),
             Number(Money::from(danger.price)),
             Words(": it has "),
             Number(danger.cash),

@@ -14,7 +14,7 @@ use moves::Priced;
 use order_grammar::{PlayOrder, print_play_order};
 use std::alloc::AllocError;
 use std::cmp::Reverse;
-use tables::{Kind, Money};
+use tables::Money;
 
 /// The column of the rotations.
 const ROTATIONS: usize = 38;
@@ -61,25 +61,6 @@ impl<P: Progress> Earning<'_, P> {
         fill(out, "BEST NOW          %\n", &[Number(now)])?;
         self.push_lays(out, now)?;
         self.push_tokens(out, now)
-    }
-
-    /// Adds the same for other trains than those that it has.
-    pub(crate) fn push_table_with(
-        &mut self,
-        out: &mut Vec<u8>,
-        kinds: &[Kind],
-    ) -> Result<(), MovesFault> {
-        let mut with = Earning {
-            trains: Trains {
-                kinds,
-                ..self.trains
-            },
-            lays: self.lays,
-            tokens: self.tokens,
-            done: 0,
-            progress: &mut *self.progress,
-        };
-        with.push_table(out)
     }
 
     /// Adds the lays.

@@ -101,7 +101,17 @@ fn push_with_each<P: Progress>(
         let is_of_bank = sells(&history.now(), *kind);
         if is_of_bank || history.trains(None, *kind) > 0 {
             push_bought(out, history, earning.trains.company, *kind, is_of_bank)?;
-            earning.push_table_with(out, &[*kind])?;
+            let mut with = Earning {
+                trains: Trains {
+                    kinds: &[*kind],
+                    ..earning.trains
+                },
+                lays: earning.lays,
+                tokens: earning.tokens,
+                done: 0,
+                progress: &mut *earning.progress,
+            };
+            with.push_table(out)?;
         }
     }
     Ok(())

@@ -10,9 +10,9 @@ use crate::fault::{MovesFault, NoAnswer};
 use crate::questions::MayForm;
 use crate::trials::seat_named;
 use certs::Holdings;
-use desk_base::Piece::{Bytes, Count, Number, Words};
+use desk_base::Piece::{Bytes, Count, Number};
 use desk_base::{Coming, Piece, fill, push_wrapped_lines};
-use desk_dues::{NEXT_TRAIN, next_train_lines};
+use desk_dues::next_train_text;
 use desk_may::{
     push_lines_of_operating, push_lines_of_turn, push_of_opening, push_of_operating, push_of_stock,
     push_standing_lines, push_until_then,
@@ -109,22 +109,13 @@ fn push_turn(
     push_until_then(alloc, out, sheets, &turn.history, from, None)?;
     match round {
         Round::Opening(_) => push_of_opening(alloc, out, sheets, &turn, seat)?,
-        _ => push_stock(alloc, out, sheets, &turn, seat)?,
+        _ => {
+            push_of_stock(alloc, out, sheets, &turn, seat)?;
+            let next_train = next_train_text(alloc, sheets, &turn.history)?;
+            push_wrapped_lines(out, 0, next_train.as_slice())?;
+        }
     }
     Ok(())
-}
-
-/// Adds what a player may do in a stock round, and what the next train brings.
-fn push_stock(
-    alloc: Global,
-    out: &mut Vec<u8>,
-    sheets: &Sheets,
-    turn: &TurnAhead,
-    seat: Seat,
-) -> Result<(), AllocError> {
-    push_of_stock(alloc, out, sheets, turn, seat)?;
-    let next_train = next_train_lines(alloc, sheets, &turn.history)?;
-    push_next_train(out, next_train.as_slice())
 }
 
 /// Returns a player's first turn of an opening or a stock round, at its head or after its lines in
@@ -182,18 +173,9 @@ fn push_operating(
     let from = history.events().len();
     let ahead = RoundAhead::open(alloc, history, draft, round)?;
     push_head(out, sheets, ahead.history(), seat, round)?;
-    let next_train = next_train_lines(alloc, sheets, ahead.history())?;
+    let next_train = next_train_text(alloc, sheets, ahead.history())?;
     push_of_operating(alloc, out, ahead, from, seat)?;
-    push_next_train(out, next_train.as_slice())
-}
-
-/// Adds the lines that say what the next train brings, below their heading, if there are any.
-fn push_next_train(out: &mut Vec<u8>, lines: &[u8]) -> Result<(), AllocError> {
-    if lines.is_empty() {
-        return Ok(());
-    }
-    fill(out, "\n%\n", &[Words(NEXT_TRAIN)])?;
-    push_wrapped_lines(out, 0, lines)
+    push_wrapped_lines(out, 0, next_train.as_slice())
 }
 
 /// Adds the player, the round, and what the player has: cash, the cash that is not tied up in bids,

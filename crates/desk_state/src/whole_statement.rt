@@ -15,7 +15,7 @@ use crate::statement_next::push_next;
 use crate::statement_parties::{push_companies_moved, push_players_moved};
 use desk_base::Piece::{Column, Count, Number, Words};
 use desk_base::{Piece, Stood, fill, push, push_wrapped, push_wrapped_lines, view_behind};
-use desk_dues::{NEXT_TRAIN, next_train_lines};
+use desk_dues::next_train_text;
 use history::{Event, History, Party, Walk};
 use purchases::sells;
 use rounds::End;
@@ -63,19 +63,10 @@ fn push_statement(
         push_laid(out, stood.history)?;
     }
     if let End::Awaiting(Round::Stock(_) | Round::Operating { .. }) = stood.end {
-        push_next_train(alloc, out, stood)?;
+        let next_train = next_train_text(alloc, stood.sheets, stood.history)?;
+        push_wrapped_lines(out, 0, next_train.as_slice())?;
     }
     push_next(alloc, out, stood, order, due)
-}
-
-/// Adds what the next train brings, if there is something to say.
-fn push_next_train(alloc: Global, out: &mut Vec<u8>, stood: &Stood) -> Result<(), AllocError> {
-    let lines = next_train_lines(alloc, stood.sheets, stood.history)?;
-    if lines.is_empty() {
-        return Ok(());
-    }
-    fill(out, "\n%\n", &[Words(NEXT_TRAIN)])?;
-    push_wrapped_lines(out, 0, lines.as_slice())
 }
 
 /// Returns those of some companies that have started, in their order.

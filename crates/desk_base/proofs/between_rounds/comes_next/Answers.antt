@@ -1,6 +1,5 @@
 use Rattle.std.proofs.Common.{ℕ, List, ap, sym, ◌∙◌}
 use Rattle.desk_base.proofs.MomentLemmas.{it_comes_next, it_is_awaited}
-use Rattle.desk_base.proofs.PlayedLemmas.{not_awaited, not_posted, not_shown}
 use Rattle.sheets.specs.File.{all_posted}
 use Rattle.desk_base.proofs.between_rounds.comes_next.Goals as goal
 

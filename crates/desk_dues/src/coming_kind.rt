@@ -1,7 +1,8 @@
 //! The kind of train that comes next, and what its first train brings.
-ghost use Rattle.std.specs.Prelude.{◌≡◌, ◌≤◌};
+ghost use Rattle.std.specs.Prelude.{◌≡◌, ◌^◌, ◌≤ℤ◌, neg_ℤ, pos};
 ghost use Rattle.desk_dues.specs.NextKind.{colour_opened_by, discarded_with, is_one_open, kind_after, left_before};
-ghost use Rattle.desk_dues.specs.NextKind.{next_kind_in, next_kind_of, rusted_with, rusting_held};
+ghost use Rattle.desk_dues.specs.NextKind.{kept_with, next_kind_in, next_kind_of, rusted_with, rusting_held};
+ghost use Rattle.totals.specs.LookBack.{IsModerate};
 
 use history::{History, TrainCount, at_least_zero};
 use map_tables::Colour;
@@ -131,14 +132,24 @@ pub fn left_before(history: &History, new: Kind, kind: Kind) -> usize
 pub fn discarded_with(history: &History, company: Company, new: Kind) -> u128
     ensures { result ≡ discarded_with history.now.events company new }
 {
-    let kept = Money::from(history.now().train_count(Some(company)))
-        - Money::from(rusting_held(history, company, rusted_with(new)));
-    at_least_zero(kept - limit(new) as Money)
+    at_least_zero(kept_with(history, company, new) - limit(new) as Money)
+}
+
+/// Returns how many trains a company has once those have rusted that rust with the first train of a
+/// kind.
+fn kept_with(history: &History, company: Company, new: Kind) -> Money
+    ensures value { result ≡ kept_with history.now.events company new }
+    ensures not_under { neg_ℤ (pos (2 ^ 101)) ≤ℤ result }
+    ensures not_over { result ≤ℤ pos (2 ^ 101) }
+{
+    Money::from(history.now().train_count(Some(company)))
+        - Money::from(rusting_held(history, company, rusted_with(new)))
 }
 
 /// Returns how many trains a company has that rust, if a kind does.
 fn rusting_held(history: &History, company: Company, kind: Option<Kind>) -> TrainCount
-    ensures { result ≡ rusting_held history.now.events company kind }
+    ensures held { result ≡ rusting_held history.now.events company kind }
+    ensures within { IsModerate result }
 {
     match kind {
         Some(kind) => history.trains(Some(company), kind),

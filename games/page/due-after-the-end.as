@@ -1,0 +1,1 @@
+a-president-is-bankrupt a-president-is-bankrupt --due Sunday

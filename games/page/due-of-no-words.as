@@ -1,0 +1,1 @@
+first-round first-round --due=
