@@ -19,8 +19,7 @@ use tables::Round;
 /// played, in lines of at most 80 columns. `due` says when the next sheets are due; it may be
 /// empty. Fails with `File` if the file is refused, with `Round` if that round was not played or no
 /// round was, and with `Memory` if allocation fails.
-#[tactic(auto, using(desk_base::proofs::Refusals::none_where_it_fails,
-    desk_base::proofs::PlayedLemmas::no_round_where_it_fails))]
+#[tactic(auto, using(desk_base::proofs::Refusals::none_where_it_fails, desk_base::proofs::PlayedLemmas::no_round_where_it_fails))]
 pub fn bulletin(
     alloc: Global,
     file: &[u8],
