@@ -2,7 +2,7 @@
 //!
 //! Its facts come from the readers of the game's list, or from `purse`, `earnings`, `stack` and
 //! `stock_left`, whose contracts define them. The rest is layout.
-ghost use Rattle.std.specs.Prelude.{IfErr, OnOk};
+ghost use Rattle.std.specs.Prelude.{IfErr, IfOk, None, OnOk, Some};
 ghost use Rattle.desk_base.specs.Played.{IsMomentFault, IsPlayedIn, IsRoundFault, ShowsNone};
 ghost use Rattle.sheets.specs.File.{IsAccepted};
 

@@ -1,6 +1,6 @@
 //! The bulletin of a round: its turns as its players read them, and a statement of what they have
 //! after it; and the same on a page.
-ghost use Rattle.std.specs.Prelude.{IfErr, OnOk};
+ghost use Rattle.std.specs.Prelude.{IfErr, None, OnOk, Some};
 ghost use Rattle.desk_base.specs.Played.{HasNoRound, IsRoundFault};
 ghost use Rattle.rounds.specs.Play.{IsTheGame};
 ghost use Rattle.sheets.specs.File.{IsAccepted};
