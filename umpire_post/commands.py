@@ -154,6 +154,9 @@ def main(words: Sequence[str], name: str = "post", now: Callable[[], datetime] =
     except PostError as wrong:
         print(f"{name}: {plain_sentence(str(wrong)) if chr(10) not in str(wrong) else wrong}", file=sys.stderr)
         return wrong.status
+    except MemoryError:
+        print(f"{name}: there is not enough memory", file=sys.stderr)
+        return DEVICE_FAILED
     except OSError as wrong:
         print(f"{name}: {_file_of(wrong)}: {wrong.strerror}", file=sys.stderr)
         _drop_output()

@@ -36,7 +36,8 @@ class Contents:
 class Incoming:
     """A message taken apart. `sender` is empty if it has not exactly one; `answers` has the Message-IDs
     of those that it answers, the newest last; `recipients` the addresses to which it was sent;
-    `automatic` says which program's message it is, if it is one."""
+    `automatic` says which program's message it is, if it is one; `is_of_list` that a mailing list sent it
+    on."""
 
     arrived: Moment = (0, 0, 0)
     sender: str = ""
@@ -45,6 +46,7 @@ class Incoming:
     answers: tuple[str, ...] = ()
     recipients: tuple[str, ...] = ()
     automatic: str = ""
+    is_of_list: bool = False
     contents: Contents = field(default_factory=Contents)
 
     @property
@@ -60,7 +62,7 @@ def take_apart(raw: Raw) -> Incoming:
     except Exception:  # (whatever the library raises on heads that no mail program writes)
         return Incoming(raw.arrived, contents=Contents(refused=DAMAGED))
     return Incoming(raw.arrived, heads.sender, heads.subject, heads.message_id, heads.answers, heads.recipients, heads.automatic,
-                    _contents(raw, heads))
+                    heads.is_of_list, _contents(raw, heads))
 
 
 def _contents(raw: Raw, heads: Heads) -> Contents:
