@@ -7,13 +7,13 @@ from pathlib import Path
 from umpire_post import letters
 from umpire_post.answers import answer
 from umpire_post.club import Club, Player
-from umpire_post.evening import counted
 from umpire_post.folder import OUTBOX, Messages, Record
 from umpire_post.letters import Letter
 from umpire_post.message import Incoming
 from umpire_post.programs import BANKRUPT
 from umpire_post.reading import Reading
 from umpire_post.sources import Raw
+from umpire_post.words import counted, listed
 
 
 @dataclass(frozen=True)
@@ -64,7 +64,7 @@ class Entry:
         to, name = self.incoming.sender, f"{self.record.number:04}-answer"
         names = dict.fromkeys(player.name for it in self.choice for player in it.players_at(to))
         answers = [it for it in (self.incoming.message_id,) if it]
-        return [letters.which_game(self.box.club, name, to, letters.listed(names), self.choice, answers, now)]
+        return [letters.which_game(self.box.club, name, to, listed(names), self.choice, answers, now)]
 
 
 @dataclass(frozen=True)
@@ -77,7 +77,8 @@ class Written:
 
     def told(self) -> str:
         """Says what became of the message."""
-        names = ", ".join(f"{it.player} {it.round}" for it in self.record.sheets) or "no sheet"
-        found = sum(len(it.findings) for it in self.entry.reading.sheets) if self.entry.reading else 0
+        sheets = self.entry.reading.sheets if self.entry.reading else []
+        names = ", ".join(f"{it.player} {it.round}" for it in self.record.sheets) or ("no sheet that counts" if sheets else "no sheet")
+        found = sum(len(it.findings) for it in sheets)
         return (f"{self.record.number:04} {self.record.sender or 'without a sender'}: {names}"
                 + (f", {counted(found, 'finding')}" if found else ""))

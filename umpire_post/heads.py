@@ -14,10 +14,10 @@ from email.parser import BytesHeaderParser
 from email.policy import Compat32
 
 from umpire_post.club import is_address
+from umpire_post.words import one_line, plain
 
 MAX_HEADS = 100 * 1024  # bytes of all heads
 MAX_HEAD = 4096  # characters of a head that is read
-MAX_NAME = 60  # characters of a name that is told
 MAX_SUBJECT = 1000  # characters of a subject
 MAX_SENDERS = 4  # From heads that are compared
 MAX_ANSWERED = 50  # messages that one answers
@@ -85,18 +85,6 @@ def read_heads(content: bytes) -> Heads:
         _precedence(parsed) == "list" or "List-Id" in parsed,
         len(content) > MAX_HEADS and HEADS_END.search(content, 0, MAX_HEADS) is None,
     )
-
-
-def one_line(text: str) -> str:
-    """Returns a text of a message on one line, without control characters."""
-    return " ".join("".join(it if it.isprintable() else " " for it in text[:MAX_HEAD]).split())
-
-
-def plain(text: str) -> str:
-    """Returns a text of a message as it may be told: on one line, short, without control
-    characters."""
-    shown = one_line(text)
-    return shown if len(shown) <= MAX_NAME else shown[:MAX_NAME - 2] + ".."
 
 
 def decoded(head: object) -> str:

@@ -9,16 +9,15 @@ from typing import TypeVar
 from umpire_post.club import Player
 from umpire_post.entries import Entry, Written
 from umpire_post.errors import SET_ASIDE, PostError
-from umpire_post.evening import Evening, counted, plain_sentence
+from umpire_post.evening import Evening
 from umpire_post.folder import DEALT_WITH, Folder, Messages, Record
 from umpire_post.games import Place, named
-from umpire_post.heads import plain
-from umpire_post.letters import listed
 from umpire_post.message import Incoming, take_apart
 from umpire_post.reading import Reader
 from umpire_post.routing import game_of
 from umpire_post.sources import Raw
 from umpire_post.strangers import Strangers
+from umpire_post.words import counted, listed, plain, shown
 
 # What is read before it is written, in one step.
 MOST_MESSAGES, MOST_BYTES = 500, 8 << 20
@@ -213,7 +212,7 @@ def tell_aside(evening: Evening, record: Record, whose: str = "") -> None:
     """Tells why something of a message was set aside."""
     for why in record.aside:
         subject = f" ({plain(record.subject)})" if record.subject else ""
-        evening.tell(f"set aside: {whose}message {record.number} from {record.sender or 'nobody'}{subject}: {plain_sentence(why)}")
+        evening.tell(f"set aside: {whose}message {record.number} from {record.sender or 'nobody'}{subject}: {shown(why)}")
 
 
 def _not_accepted(game: Folder, record: Record, content: bytes) -> tuple[Record, bytes]:

@@ -14,10 +14,10 @@ from datetime import datetime
 
 from umpire_post.club import Club, Player
 from umpire_post.folder import Folder, Pending, Record, Sheet, line_count, with_sheets
-from umpire_post.heads import plain
 from umpire_post.message import Incoming
 from umpire_post.programs import Programs, Report
 from umpire_post.sheets import Found
+from umpire_post.words import plain
 
 DAY = 24 * 60 * 60
 MOST_WRONG_KEYS = 5  # for a player within a day; after these the player's sheets wait for the umpire

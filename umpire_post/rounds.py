@@ -10,14 +10,15 @@ from umpire_post import letters
 from umpire_post.club import Player
 from umpire_post.disk import Step
 from umpire_post.errors import FILE_REFUSED, PostError
-from umpire_post.evening import Evening, counted
+from umpire_post.evening import Evening
 from umpire_post.folder import (DUE, HANDED_OVER, ORDERS, OUTBOX, UNDONE, Folder, Round, Sheet, due_text, empty_sheet,
                                 line_count, with_sheets)
-from umpire_post.letters import Attached, Letter, listed
+from umpire_post.letters import Attached, Letter
 from umpire_post.programs import ALONE, Programs, Report
 from umpire_post.reading import findings_in
 from umpire_post.sheets import Found
 from umpire_post.text import Line
+from umpire_post.words import counted, listed
 
 
 @dataclass(frozen=True)

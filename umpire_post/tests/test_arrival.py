@@ -186,7 +186,8 @@ class Newest(Evenings):
 
     def test_an_older_message_replaces_no_newer_sheet(self) -> None:
         self.arrives("1700000000.M5_10.host", ["SHEET ANN PR1", "TURN", "BUY SV"], 1)
-        self.arrives("1700000000.M5_9.host", ["SHEET ANN PR1", "TURN", "BUY CS"], 2)
+        told = self.arrives("1700000000.M5_9.host", ["SHEET ANN PR1", "TURN", "BUY CS"], 2)
+        self.assertEqual("0002 ann@example.org: no sheet that counts", told.splitlines()[0])
         letter = (self.game / "outbox" / "0002-answer.eml").read_text()
         self.assertIn("A sheet of ANN for PR1 that arrived later is here, in message 1. That one\ncounts, and this one does not.", letter)
         self.assertEqual(["TURN", "BUY SV"], self.counting())
