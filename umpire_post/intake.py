@@ -8,7 +8,7 @@ from typing import TypeVar
 
 from umpire_post.club import Player
 from umpire_post.entries import Entry, Written
-from umpire_post.errors import SET_ASIDE, PostError
+from umpire_post.errors import DEVICE_FAILED, SET_ASIDE, PostError
 from umpire_post.evening import Evening
 from umpire_post.folder import DEALT_WITH, Folder, Messages, Record
 from umpire_post.games import Place, named
@@ -95,10 +95,17 @@ class Intake:
         choice = () if incoming.automatic else tuple(it.club for it in self._played(incoming))
         return self._kept(Entry(self.shared, raw, record, incoming, choice=choice))
 
-    def accept(self, game: Folder, record: Record, content: bytes) -> Entry:
-        """Reads a message once more, as the umpire accepts it, for a game."""
-        raw = Raw(content, len(content), record.arrived)
-        return self._read_for(game, raw, take_apart(raw), record)
+    def accept(self, game: Folder, messages: Iterable[tuple[Record, bytes]]) -> list[Written]:
+        """Reads messages once more, as the umpire accepts them, for a game. Fails if the post fails on one."""
+        entries = []
+        for record, content in messages:
+            raw = Raw(content, len(content), record.arrived)
+            if entry := self._tried(raw, lambda: self._read_for(game, raw, take_apart(raw), record)):
+                entries.append(entry)
+        written = self._written(entries)
+        for why in self.failing.values():
+            raise PostError(why)
+        return written
 
     def write(self, written: Sequence[Written], dealt_with: Iterable[Path] = ()) -> int:
         """Writes messages in one step, and tells of them. Returns of how many something was set aside."""
@@ -114,13 +121,6 @@ class Intake:
             tell_aside(self.evening, it.record, whose)
         return sum(bool(it.record.aside) for it in written)
 
-    def accepted(self, entries: Sequence[Entry]) -> list[Written]:
-        """Makes what is written of messages that the umpire accepts. Fails if the post fails on one."""
-        written = self._written(entries)
-        for why in self.failing.values():
-            raise PostError(why)
-        return written
-
     def _written(self, entries: Sequence[Entry]) -> list[Written]:
         found = [self._tried(it.raw, lambda: it.written(self.evening.now())) for it in entries]
         return [it for it in found if it]
@@ -133,6 +133,8 @@ class Intake:
         except (PostError, OSError, MemoryError):
             raise
         except Exception as wrong:  # (whatever is wrong with one message, the next one is read)
+            if raw.digest in self.failing:
+                raise PostError(f"{self.failing[raw.digest]}, and it cannot be kept", DEVICE_FAILED) from wrong
             self.failing[raw.digest] = f"the post fails on it ({type(wrong).__name__}), so nothing of it counts"
             return None
 
@@ -189,8 +191,8 @@ def accept(evening: Evening, place: Place, numbers: Sequence[int], game: str | N
         if intake.shared and not game:
             raise PostError("say with --game for which game the message is")
         to = named(intake.games, game) if game else intake.games[0]
-        entries = [intake.accept(to, *_not_accepted(to, *box.message(it))) for it in numbers]
-        return SET_ASIDE if intake.write(intake.accepted(entries), [box.in_inbox(it, DEALT_WITH) for it in numbers]) else 0
+        written = intake.accept(to, [_not_accepted(to, *box.message(it)) for it in numbers])
+        return SET_ASIDE if intake.write(written, [box.in_inbox(it, DEALT_WITH) for it in numbers]) else 0
 
 
 def say_done(evening: Evening, place: Place, numbers: Sequence[int]) -> int:

@@ -66,7 +66,7 @@ class Limited(Generic[Result]):
 
     def _begin(self) -> None:
         """Begins the process, and waits until it serves."""
-        words = [sys.executable, "-I", "-S", "-B", "-c", SERVE, str(TOP)]
+        words = [sys.executable or "python3", "-I", "-S", "-B", "-c", SERVE, str(TOP)]
         self._process = subprocess.Popen(words, stdin=subprocess.PIPE, stdout=subprocess.PIPE, stderr=subprocess.DEVNULL)
         self._begun_by = os.getpid()
         try:

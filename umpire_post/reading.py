@@ -151,7 +151,7 @@ class Reader:
             whose = f"for {one.player} " if one.player in self.club.players else ""
             reading.aside.append(f"a sheet {whose}from an address that is nobody's")
             self._add(reading, one, "This address is nobody's in the club, so the sheet does not count. The umpire is told.", is_shown=False)
-        if reading.incoming.is_of_list:
+        if reading.incoming.is_of_list or reading.incoming.sender.lower() == self.club.umpire.lower():
             reading.leave_unanswered()
         return reading
 

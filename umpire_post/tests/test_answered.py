@@ -70,12 +70,12 @@ class Strangers(Evenings):
         self.comes(of_stranger(2), of_stranger(3), status=3)
         self.assertEqual([1, 3], self.answers())
 
-    def test_no_program_and_no_list_is_answered(self) -> None:
+    def test_no_program_no_list_and_not_the_umpire_is_answered(self) -> None:
         heads = ("Auto-Submitted: auto-replied\n", "Auto-Submitted: auto-generated (x)\n", "Precedence: bulk\n", "Precedence: List\n",
                  "Precedence: junk\n", "List-Id: <x.example>\n", "Return-Path: <>\n", "Return-Path:\t< >\n", "Return-Path:\n", "X-Autoreply: yes\n")
         self.comes(*(of_stranger(at, "", it) for at, it in enumerate(heads)), of_stranger(50, "MAILER-DAEMON@x.example"),
-                   of_stranger(51, "postmaster@x.example"), status=3)
-        self.assertEqual((12 * 2, []), (len(self.names("inbox")), self.answers()))
+                   of_stranger(51, "postmaster@x.example"), of_stranger(52, UMPIRE.title()), status=3)
+        self.assertEqual((13 * 2, []), (len(self.names("inbox")), self.answers()))
 
     def test_a_player_may_write_by_a_list(self) -> None:
         self.comes(b"Precedence: list\nList-Id: <x.example>\n" + mail("ANN", SHEETS["ANN"], 1))
@@ -139,12 +139,19 @@ class Failing(Evenings):
         self.fails(intake, "_owed", lambda reader, *_: len(reader.folder.records) == 2 and bool(reader.folder.records[1].sheets))
         self.look_at()
 
+    def test_a_message_that_cannot_be_kept_is_not_passed_over(self) -> None:
+        self.fails(Record, "to_json", lambda record: record.number == 2)
+        told = self.comes(mail("ANN", SHEETS["ANN"], 1), mail("ANN", SHEETS["ANN"], 2), status=4)
+        self.assertEqual(f"post: {FAILS}, and it cannot be kept\n", told)
+
     def test_a_message_that_is_accepted(self) -> None:
         self.comes(mail("ANN", SHEETS["ANN"], 2, "ann@x.example"), status=3)
         before = tree(self.game)
-        self.fails(entries, "answer", lambda *_, **__: True)
-        self.assertIn("the post fails on it (KeyError)", self.post("in", "--accept", "1", status=1))
-        self.assertEqual(before, tree(self.game))
+        for owner, name in ((entries, "answer"), (Reader, "_judge")):
+            with self.subTest(name):
+                self.fails(owner, name, lambda *_, **__: True)
+                self.assertIn("the post fails on it (KeyError)", self.post("in", "--accept", "1", status=1))
+                self.assertEqual(before, tree(self.game))
 
     def test_a_device_that_fails_is_no_fault_of_a_message(self) -> None:
         before = tree(self.game)

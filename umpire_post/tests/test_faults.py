@@ -4,11 +4,13 @@ nothing has changed."""
 import email
 import multiprocessing
 import os
+import runpy
 import subprocess
 import time
 import unittest
 from email.policy import default
 from pathlib import Path
+from unittest import mock
 
 from umpire_post.disk import locked
 from umpire_post.programs import Programs
@@ -248,6 +250,11 @@ class Streams(Evenings):
         self.assertEqual(0, self.run_post('"$post" status "$game" >&-')[0])
         status, said = self.run_post('"$post" status "$game" > /dev/full')
         self.assertEqual((4, "post: a file, standard input or standard output: No space left on device\n"), (status, said))
+
+    def test_a_command_that_the_umpire_interrupts(self) -> None:
+        with mock.patch("umpire_post.commands.main", side_effect=KeyboardInterrupt), self.assertRaises(SystemExit) as ended:
+            runpy.run_path(str(POST))
+        self.assertEqual(130, ended.exception.code)
 
     def test_names_that_the_terminal_cannot_print(self) -> None:
         self.game = self.place / os.fsdecode(b"Z\xfcrich \xe2\x82\xac")
