@@ -101,7 +101,7 @@ sees_wrong_post() {
         "$(wrong_post 's/until = time.monotonic() + seconds/until = time.monotonic() - 1/' disk.py)"
       ;;
     bankrupt)
-      sees 'a bankruptcy of which nobody was told' 1 run_tests test_evenings.Outlook \
+      sees 'a bankruptcy of which nobody was told' 1 run_tests test_evenings.Outlook.test_a_bankruptcy_of_which_no_letter_has_told \
         "$(wrong_post 's/    if not goes:/    if False:/' rounds.py)"
       ;;
     letter) sees 'another letter' 1 run_tests test_six_rounds "$(wrong_post '0,/It counts/s//It counted/' tests/six-rounds.outbox)" ;;
