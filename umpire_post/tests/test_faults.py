@@ -251,6 +251,15 @@ class Streams(Evenings):
         status, said = self.run_post('"$post" status "$game" > /dev/full')
         self.assertEqual((4, "post: a file, standard input or standard output: No space left on device\n"), (status, said))
 
+    def test_a_file_that_cannot_be_written_is_named(self) -> None:
+        self.new()
+        path = self.place / "message"
+        path.write_bytes(mail("ANN", [*EMPTY[0], *["# a remark"] * 1000], 1))
+        before = tree(self.game)
+        status, said = self.run_post(f'ulimit -f 8; "$post" in "$game" "{path}"')
+        self.assertEqual((4, f"post: {self.game.resolve()}/.step.new/files/inbox/0001.eml: File too large\n"), (status, said))
+        self.assertEqual(before, {name: it for name, it in tree(self.game).items() if not name.startswith(".step.new")})
+
     def test_a_command_that_the_umpire_interrupts(self) -> None:
         with mock.patch("umpire_post.commands.main", side_effect=KeyboardInterrupt), self.assertRaises(SystemExit) as ended:
             runpy.run_path(str(POST))
