@@ -156,7 +156,8 @@ class Programs:
         to its end."""
         status, out = self._run([*self.desk, "round", "--why"], orders)
         self._succeeded("round", status)
-        if [it for it in out.split("\n") if it and not it.startswith(" ")] != report.last_round():
+        lines = [it for it in out.split("\n") if it and not it.startswith(" ")]
+        if lines != report.last_round() or not out.endswith("\n"):
             raise PostError("the round of the desk has no end", DEVICE_FAILED)
         return [line for it in REFUSED.findall(out) for line in it.split("\n")]
 

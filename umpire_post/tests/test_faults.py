@@ -83,6 +83,12 @@ class Halves(Faulty):
         self.change_program("check", "true")
         self.assertIn("what desk check says has no end", self.fails("in", self.message()))
 
+    def test_a_round_without_its_end(self) -> None:
+        for cut in (1, 4, 40):
+            self.change_program("round", f"head -c -{cut}")
+            for words in (["round", *ALL], ["status", "--check"]):
+                self.assertIn("the round of the desk has no end", self.fails(*words))
+
     def test_a_bulletin_without_its_end(self) -> None:
         for cut in (1, 4, 200):
             self.change_program("bulletin", f"head -c -{cut}")
