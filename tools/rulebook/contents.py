@@ -100,7 +100,7 @@ NOTES: list[tuple[str, str]] = [
     ('operating: LinesLead', 'Line after line, each leading from the turn before it to the turn after it. A line with a fault ends in '
      '`ReadingLeads`, one whose condition does not hold in `AskedLeads`, and an order in `OrderLeads`, by its own definition.'),
     ('board: IsLayAnswer', '`reached` is a value fixed by `exact`: if none of the rules before L9 is broken, it is true exactly if the company '
-     'reaches some piece of the tile. Then the answer is the first rule that is broken, or the cost. If one of those rules is broken, `reached` '
+     'reaches some track of the hex, old or new, or a stop of it. Then the answer is the first rule that is broken, or the cost. If one of those rules is broken, `reached` '
      'does not matter.'),
     ('board: IsTokenAnswer', '`reached` is true exactly if the company reaches the place, where none of the rules before K5 is broken.'),
     ('legal_runs: walk_named', 'The train begins at the stop of the first place. `leg_to` is the step or the two steps to the next place, if '
