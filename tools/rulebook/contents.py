@@ -106,7 +106,7 @@ NOTES: list[tuple[str, str]] = [
     ('legal_runs: walk_named', 'The train begins at the stop of the first place. `leg_to` is the step or the two steps to the next place, if '
      'there is such track, and `travelled` goes on from there. `with_leg` adds the steps to what was made so far: here a walk, in which '
      '`taken` puts the latest step first. If a leg is missing, or the last place has no stop, there is no walk.'),
-    ('legal_runs: visited', 'A walk has its latest step first. So `visited` goes backwards: of each step the stop at which it is left, and of the '
+    ('legal_runs: visited', 'Steps are listed last to first. So `visited` goes backwards: of each step the stop at which it is left, and of the '
      'first step also the stop at which it is entered. `crossed` has the border over which each step is entered.'),
     ('legal_runs: border_of', 'A border has one number: three times the place of a hex, and the number of its side 0, 1 or 2. At a side 3, 4 or '
      '5 it is a border of the hex beyond. Sides at the edge of the map have numbers, too, which may be those of other borders, but no walk '
