@@ -100,13 +100,13 @@ NOTES: list[tuple[str, str]] = [
     ('operating: LinesLead', 'Line after line, each leading from the turn before it to the turn after it. A line with a fault ends in '
      '`ReadingLeads`, one whose condition does not hold in `AskedLeads`, and an order in `OrderLeads`, by its own definition.'),
     ('board: IsLayAnswer', '`reached` is a value fixed by `exact`: if none of the rules before L9 is broken, it is true exactly if the company '
-     'reaches some piece of the tile. Then the answer is the first rule that is broken, or the cost. If one of those rules is broken, `reached` '
+     'reaches some track of the hex, old or new, or a stop of it. Then the answer is the first rule that is broken, or the cost. If one of those rules is broken, `reached` '
      'does not matter.'),
     ('board: IsTokenAnswer', '`reached` is true exactly if the company reaches the place, where none of the rules before K5 is broken.'),
     ('legal_runs: walk_named', 'The train begins at the stop of the first place. `leg_to` is the step or the two steps to the next place, if '
      'there is such track, and `travelled` goes on from there. `with_leg` adds the steps to what was made so far: here a walk, in which '
      '`taken` puts the latest step first. If a leg is missing, or the last place has no stop, there is no walk.'),
-    ('legal_runs: visited', 'A walk has its latest step first. So `visited` goes backwards: of each step the stop at which it is left, and of the '
+    ('legal_runs: visited', 'Steps are listed last to first. So `visited` goes backwards: of each step the stop at which it is left, and of the '
      'first step also the stop at which it is entered. `crossed` has the border over which each step is entered.'),
     ('legal_runs: border_of', 'A border has one number: three times the place of a hex, and the number of its side 0, 1 or 2. At a side 3, 4 or '
      '5 it is a border of the hex beyond. Sides at the edge of the map have numbers, too, which may be those of other borders, but no walk '
