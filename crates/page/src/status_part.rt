@@ -83,8 +83,8 @@ pub(crate) fn put_status(out: &mut Writer, scene: &Scene, order: &[Company], tol
         Some(round) => put_item(out, "Last round", &[Named(round)]),
         None => put_item(out, "Last round", &[Words("none")]),
     }
-    put_words(out, "Phase", phase.code());
-    put_words(out, "Tiles", colours_of(phase));
+    put_item(out, "Phase", &[Words(phase.code())]);
+    put_item(out, "Tiles", &[Words(colours_of(phase))]);
     put_next_train(out, history);
     let trains = limit(phase) as Money;
     put_count(out, "Trains of a company", trains, " at most");
@@ -173,11 +173,6 @@ fn put_item(out: &mut Writer, words: &'static str, pieces: &[PagePiece]) {
     out.put(&[Words(" ")]);
     out.element(Tag::Bold, pieces);
     out.end();
-}
-
-/// Adds an item of the status, with words.
-fn put_words(out: &mut Writer, label: &'static str, words: &'static str) {
-    put_item(out, label, &[Words(words)]);
 }
 
 /// Adds an item of the status, with the name of a player.
