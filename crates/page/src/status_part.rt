@@ -2,15 +2,13 @@
 
 use crate::checksum::Source;
 use crate::phases_part::colours_of;
-use crate::whole_page::Told;
 use desk_base::trains_left;
-use desk_state::operates;
 use history::{History, Party};
 use markup::PagePiece::{Checksum, Count, Name, Number, Round as Named, Words};
 use markup::{Attr, PagePiece, Tag, Writer};
 use page_map::Scene;
 use rounds::End;
-use tables::{Company, Kind, Money, Round, Seat, certificate_limit, limit, train};
+use tables::{Kind, Money, Round, Seat, certificate_limit, limit, train};
 
 /// Adds the title of the page, in its head and above its body: the last round played.
 pub(crate) fn put_title(out: &mut Writer, scene: &Scene, tag: Tag) {
@@ -72,13 +70,15 @@ pub fn put_links(out: &mut Writer, links: &[(&'static str, &'static str)]) {
     out.end();
 }
 
-/// Adds a summary of the game, with when sheets are due, and the file's number of lines and its
-/// checksum.
-pub(crate) fn put_status(out: &mut Writer, scene: &Scene, order: &[Company], told: Told) {
+/// Adds a summary of the game beside what is told of the next round, with the file's number of lines
+/// and its checksum.
+pub(crate) fn put_status(out: &mut Writer, scene: &Scene, source: Source) {
     let history = scene.history;
     let phase = history.phase();
     out.begin_as(Tag::Listing, "status");
-    put_next(out, scene, told.due);
+    if !matches!(scene.end, End::Awaiting(_)) {
+        put_next(out, scene, &[]);
+    }
     match history.now().round() {
         Some(round) => put_item(out, "Last round", &[Named(round)]),
         None => put_item(out, "Last round", &[Words("none")]),
@@ -94,14 +94,13 @@ pub(crate) fn put_status(out: &mut Writer, scene: &Scene, order: &[Company], tol
         " operating rounds"
     };
     put_count(out, "Set", Money::from(scene.in_set), words);
-    if let End::Awaiting(round) = scene.end {
-        put_name(out, "Priority", scene.name(history.now().priority()));
-        put_turns(out, scene, order, round);
+    if let End::Awaiting(Round::Opening(_) | Round::Stock(_)) = scene.end {
+        put_turns(out, scene);
     }
     put_count(out, "Bank", history.cash(Party::Bank), "");
     let certificates = certificate_limit(history.seats()) as Money;
     put_count(out, "Certificates", certificates, " at most");
-    put_source(out, told.source);
+    put_source(out, source);
     out.end();
 }
 
@@ -142,25 +141,16 @@ pub fn put_train_on_sale(out: &mut Writer, history: &History) {
     }
 }
 
-/// Adds the order of the turns of the next round: the companies that operate, or the players.
-fn put_turns(out: &mut Writer, scene: &Scene, order: &[Company], round: Round) {
+/// Adds the order of the players' turns in the next round.
+fn put_turns(out: &mut Writer, scene: &Scene) {
     out.begin(Tag::Item);
     out.element(Tag::Small, &[Words("Order of turns")]);
     out.begin(Tag::Bold);
     out.within();
-    let view = scene.history.now();
-    if let Round::Operating { .. } = round {
-        for company in order {
-            if operates(&view, *company) {
-                out.put(&[Words(" "), Words(company.code())]);
-            }
-        }
-    } else {
-        let mut seat = view.priority();
-        for _ in 0..scene.seats {
-            out.put(&[Words(" "), Name(scene.name(seat))]);
-            seat = seat.left(scene.seats);
-        }
+    let mut seat = scene.history.now().priority();
+    for _ in 0..scene.seats {
+        out.put(&[Words(" "), Name(scene.name(seat))]);
+        seat = seat.left(scene.seats);
     }
     out.end();
     out.end();
@@ -173,11 +163,6 @@ fn put_item(out: &mut Writer, words: &'static str, pieces: &[PagePiece]) {
     out.put(&[Words(" ")]);
     out.element(Tag::Bold, pieces);
     out.end();
-}
-
-/// Adds an item of the status, with the name of a player.
-fn put_name(out: &mut Writer, label: &'static str, name: &[u8]) {
-    put_item(out, label, &[Name(name)]);
 }
 
 /// Adds an item of the status, with a number and words.

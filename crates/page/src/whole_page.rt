@@ -14,20 +14,21 @@ use crate::players_part::put_players;
 use crate::result_part::put_result;
 use crate::revenue_part::put_revenue;
 use crate::status_part::{self, LINKS};
-use crate::style::{STYLE, STYLE_OF_DUE};
+use crate::style::STYLE;
 use crate::worth_history::{play_to, thinned};
 use desk_base::{DeskFault, Stood, stood_now};
 use desk_state::{all_in_order, before_in_stack};
 use history::History;
 use markup::PagePiece::{Round as Named, Words};
 use markup::{Attr, Tag, Writer, begin_plain_section, begin_section};
+use page_ahead::{Panel, STYLE_OF_PANEL, put_panel};
 use page_charts::{ChartToken, ChartTokens, Entry, Players, put_chart, put_history};
 use page_map::{
     Scene, begin_map, end_map, moved_in_last_round, put_hexes, put_key, put_labels, put_laid,
     put_tiles_left, square_before_round,
 };
 use page_routes::{Routes, last_routes, put_lines, put_table, put_tags};
-use rounds::Play;
+use rounds::{End, Play};
 use sheets::{Sheets, collect};
 use std::alloc::{AllocError, Global};
 use tables::{COMPANIES, Company, Round};
@@ -43,11 +44,11 @@ enum Form {
 
 /// What a page shows besides the game of its order file.
 #[derive(Clone, Copy)]
-pub(crate) struct Told<'a> {
+struct Told<'a> {
     form: Form,
-    pub(crate) source: Source,
+    source: Source,
     /// When sheets are due, in the umpire's words; empty if they did not say.
-    pub(crate) due: &'a [u8],
+    due: &'a [u8],
     /// The bulletin of the round.
     bulletin: &'a [u8],
 }
@@ -172,8 +173,10 @@ fn page_text(
         Form::Whole => Writer::page(alloc),
         Form::ToHexes(_) => Writer::scripted_page(alloc),
     };
-    begin_page(&mut out, scene, order.as_slice(), told);
+    begin_page(&mut out, scene, told);
     put_result(&mut out, scene);
+    put_ahead(alloc, &mut out, scene, told)?;
+    status_part::put_status(&mut out, scene, told.source);
     put_map_section(alloc, &mut out, scene, &routes)?;
     put_bulletin(&mut out, history.now().round(), told.bulletin);
     begin_section(&mut out, "chart", "Stock chart", "");
@@ -229,21 +232,33 @@ fn token_of(history: &History, company: Company) -> Option<ChartToken>
 }
 
 /// Adds what comes before the sections.
-fn begin_page(out: &mut Writer, scene: &Scene, order: &[Company], told: Told) {
+fn begin_page(out: &mut Writer, scene: &Scene, told: Told) {
     status_part::put_title(out, scene, Tag::Title);
-    out.element(Tag::Style, &[Words(STYLE)]);
+    out.element(Tag::Style, &[Words(STYLE), Words(STYLE_OF_PANEL)]);
     if let Form::ToHexes(style) = told.form {
         out.element(Tag::Style, &[Words(style)]);
-    }
-    if !told.due.is_empty() {
-        out.element(Tag::Style, &[Words(STYLE_OF_DUE)]);
     }
     out.end();
     out.begin(Tag::Body);
     status_part::put_skip(out);
     put_head(out, scene);
     out.begin(Tag::Main);
-    status_part::put_status(out, scene, order, told);
+}
+
+/// Adds what a player must know before the next round, if one comes. Fails only if allocation
+/// fails.
+fn put_ahead(alloc: Global, out: &mut Writer, scene: &Scene, told: Told) -> Result<(), AllocError> {
+    let End::Awaiting(round) = scene.end else {
+        return Ok(());
+    };
+    let panel = Panel {
+        players: players_of(scene),
+        owe: scene.owe,
+        history: scene.history,
+        round,
+        due: told.due,
+    };
+    put_panel(alloc, out, &panel)
 }
 
 /// Adds what is above the sections.
