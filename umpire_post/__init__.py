@@ -5,6 +5,7 @@ sheet, what is wrong with it and what a round brings is what `umpire` and `umpir
 
 Modules, in reading order:
 
+    words       how numbers, names and texts of strangers are put in words
     deadlines   when sheets are due, and the time zone of a club
     club        who plays, from which addresses, and how mail is sent: `club.toml`
     programs    the two programs, and what is read from their answers
@@ -24,6 +25,8 @@ Modules, in reading order:
     routing     which game of a club a message belongs to
     letters     how a letter is made, and the letters of a game
     answers     the answer to a message
+    entries     a message that was read, and what is written of it
+    strangers   which messages from outside the club are answered
     evening     what a command works with
     beginning   `new` and `club`
     intake      `in`

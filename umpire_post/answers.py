@@ -4,12 +4,11 @@ from collections.abc import Sequence
 from datetime import datetime
 
 from umpire_post.club import Club, Player
-from umpire_post.evening import counted
-from umpire_post.heads import plain
 from umpire_post.letters import Letter, findings_text, letter, wrapped
 from umpire_post.message import Contents, Incoming
 from umpire_post.prose import ANSWERS, READ
 from umpire_post.reading import Judged, Reading
+from umpire_post.words import counted, plain
 
 MAX_UNREAD = 10  # parts that were not read
 MAX_LEFT_OUT = 5  # lines that were left out of a sheet

@@ -15,8 +15,9 @@ from umpire_post.errors import FILE_REFUSED, PostError
 from umpire_post.evening import Evening
 from umpire_post.folder import CLUB, DUE, INBOX, ORDERS, OUTBOX, ROUNDS, SENT, due_text, first_letter
 from umpire_post.games import is_club
-from umpire_post.letters import Attached, listed
+from umpire_post.letters import Attached
 from umpire_post.programs import Report
+from umpire_post.words import listed
 
 RULES = ("playing.md", "rules.md")  # for players, in the order in which they are read
 

@@ -22,6 +22,7 @@ NAME = re.compile(r"[\w.-]{1,40}", re.ASCII)
 GREETING = "{name},"
 CLOSING = "-- \nThe umpire of {game}"
 SECONDS = 300  # within which a program ends
+STRANGERS = 10  # who are answered within a day
 OWN = ("club", "mark", "begun")  # what the file of a game has only for itself
 
 
@@ -50,8 +51,9 @@ class Delivery:
 @dataclass(frozen=True)
 class Club:
     """What `club.toml` says of a game; `game` is its name, or that of a club of several games. Sheets are
-    due by `due`, if it has such a rule; `seconds` is how long a program may run, if it says so; links
-    stand in letters instead of what they would have attached."""
+    due by `due`, if it has such a rule; `seconds` is how long a program may run, if it says so; so many
+    `strangers` get an answer within a day; links stand in letters instead of what they would have
+    attached."""
 
     game: str
     umpire: str
@@ -67,6 +69,7 @@ class Club:
     zone: Zone = field(default_factory=lambda: Zone.of(UTC))
     due: Rule | None = None
     seconds: int | None = None
+    strangers: int = STRANGERS
 
     def players_at(self, address: str) -> list[Player]:
         """Returns the players who have this address. Upper and lower case are the same."""
@@ -152,7 +155,8 @@ def _club(whole: Mapping[str, Any]) -> Club:
         rules_link=_text(texts, "rules_link", ""),
         zone=Zone.of(_text(whole, "zone", UTC)),
         due=Rule.of(rule) if rule else None,
-        seconds=_number(whole, "seconds", None, 86400),
+        seconds=_number(whole, "seconds", 1, 86400, SECONDS) if "seconds" in whole else None,
+        strangers=_number(whole, "strangers", 0, 1000, STRANGERS),
     )
 
 
@@ -166,6 +170,7 @@ def club_text(club: Club, due: str, kind: str = "game") -> str:
         f"zone = {json.dumps(club.zone.name)}  # the time zone of all times in letters",
         f'due = {json.dumps(due)}  # when sheets are due, such as "Sunday 18:00"; "" for no rule',
         f"seconds = {club.seconds or SECONDS}  # how long a program may run",
+        f"strangers = {club.strangers}  # answers within a day to sheets from outside the club",
         "",
         "# A sheet may come from any address of its player. Letters go to the first one.",
         '# With a line key = "WORD" a sheet counts only in a message with the line KEY WORD.',
@@ -235,7 +240,7 @@ def _delivery(entry: Mapping[str, Any]) -> Delivery:
     sendmail = entry.get("sendmail", ["/usr/sbin/sendmail"])
     if not isinstance(sendmail, list) or not sendmail or not all(isinstance(it, str) for it in sendmail):
         raise PostError("sendmail is not a list of a program and its arguments")
-    return Delivery(by, tuple(sendmail), _text(entry, "host", "localhost"), _number(entry, "port", 587, 65535) or 587, tls,
+    return Delivery(by, tuple(sendmail), _text(entry, "host", "localhost"), _number(entry, "port", 1, 65535, 587), tls,
                     _text(entry, "user", ""), _text(entry, "password_file", ""))
 
 
@@ -264,10 +269,10 @@ def _text(table: Mapping[str, Any], name: str, otherwise: str | None = None) -> 
     return text
 
 
-def _number(table: Mapping[str, Any], name: str, otherwise: int | None, most: int) -> int | None:
+def _number(table: Mapping[str, Any], name: str, least: int, most: int, otherwise: int) -> int:
     number = table.get(name, otherwise)
-    if number is not None and (not isinstance(number, int) or not 0 < number <= most):
-        raise PostError(f"{name} is not a number from 1 to {most}")
+    if type(number) is not int or not least <= number <= most:
+        raise PostError(f"{name} is not a number from {least} to {most}")
     return number
 
 

@@ -14,10 +14,11 @@ from umpire_post import delivery, intake, overview, rounds
 from umpire_post.beginning import Wish, begin_club, begin_game
 from umpire_post.disk import Work, locked
 from umpire_post.errors import DEVICE_FAILED, WRONG_ASKED, PostError
-from umpire_post.evening import Evening, plain_sentence
+from umpire_post.evening import Evening
 from umpire_post.games import Place, is_club
 from umpire_post.programs import Programs
 from umpire_post.sources import messages
+from umpire_post.words import shown
 
 TOP = Path(__file__).resolve().parent.parent
 SECONDS = 60  # for which a command waits for another one
@@ -41,9 +42,9 @@ class _Parser(argparse.ArgumentParser):
         formatter.add_text(self.description)
         formatter.add_usage(self.usage, self._actions, self._mutually_exclusive_groups, "Usage: ")
         for group in self._action_groups:
-            shown = [it for it in group._group_actions if not isinstance(it, argparse._SubParsersAction)]
+            others = [it for it in group._group_actions if not isinstance(it, argparse._SubParsersAction)]
             formatter.start_section(group.title)
-            formatter.add_arguments(shown)
+            formatter.add_arguments(others)
             formatter.end_section()
         listed = "".join(f"  {word:<8}{what}\n" for word, what in self.commands.items())
         commands = f"\nCommands:\n{listed}" if listed else ""
@@ -152,8 +153,11 @@ def main(words: Sequence[str], name: str = "post", now: Callable[[], datetime] =
             sys.stdout.flush()
         return status
     except PostError as wrong:
-        print(f"{name}: {plain_sentence(str(wrong)) if chr(10) not in str(wrong) else wrong}", file=sys.stderr)
+        print(f"{name}: {shown(str(wrong))}", file=sys.stderr)
         return wrong.status
+    except MemoryError:
+        print(f"{name}: there is not enough memory", file=sys.stderr)
+        return DEVICE_FAILED
     except OSError as wrong:
         print(f"{name}: {_file_of(wrong)}: {wrong.strerror}", file=sys.stderr)
         _drop_output()
@@ -163,7 +167,7 @@ def main(words: Sequence[str], name: str = "post", now: Callable[[], datetime] =
 def _file_of(wrong: OSError) -> str:
     """Returns the name of the file that an error is about."""
     if isinstance(wrong.filename, (str, bytes, Path)):
-        return plain_sentence(os.fsdecode(wrong.filename))
+        return shown(os.fsdecode(wrong.filename))
     return "a file, standard input or standard output"
 
 

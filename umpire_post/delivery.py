@@ -19,9 +19,10 @@ from pathlib import Path
 from umpire_post.club import Club, Delivery, read_club
 from umpire_post.disk import PAUSE, move
 from umpire_post.errors import DEVICE_FAILED, PostError
-from umpire_post.evening import Evening, counted
+from umpire_post.evening import Evening
 from umpire_post.folder import CLUB, HANDED_OVER, SENT, in_doubt_in, letters_in
 from umpire_post.games import Place
+from umpire_post.words import counted
 
 SECONDS = 60  # without an answer of a host or of sendmail
 CLOSING = 421  # by which a host ends a connection

@@ -94,7 +94,7 @@ def drop_begun(top: Path) -> None:
 
 def write(path: Path, content: bytes) -> None:
     """Writes a file. The device need not have it yet."""
-    with open(path, "wb") as file:
+    with _named(path), open(path, "wb") as file:
         file.write(content)
 
 
@@ -107,9 +107,20 @@ def flush(paths: Iterable[Path]) -> None:
     for path in waiting:
         at = os.open(path, os.O_RDONLY)
         try:
-            os.fsync(at)
+            with _named(path):
+                os.fsync(at)
         finally:
             os.close(at)
+
+
+@contextmanager
+def _named(path: Path) -> Iterator[None]:
+    """Has an error name the file that it is about, as that of a write does not."""
+    try:
+        yield
+    except OSError as wrong:
+        wrong.filename = wrong.filename or str(path)
+        raise
 
 
 def move(path: Path, place: Path) -> None:

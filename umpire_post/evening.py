@@ -39,13 +39,3 @@ class Evening:
         """Tells each line of a text, a little to the right."""
         for line in text.splitlines():
             self.tell(f"  {line}")
-
-
-def counted(number: int, what: str) -> str:
-    """Returns a number of things in words."""
-    return f"{number} {what}{'' if number == 1 else 's'}"
-
-
-def plain_sentence(text: str) -> str:
-    """Returns a sentence without characters that a terminal would obey."""
-    return "".join(it if it.isprintable() else "?" for it in text)

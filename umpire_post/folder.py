@@ -56,7 +56,8 @@ class Record:
     """What was read in a message: the sheets that count, and why others were set aside. It arrived at
     a moment that its mailbox told, and was read when it `came`. Of one that is cut only the front was
     kept. `warned` names the players who were told that their sheet makes them bankrupt, `wrong_keys` those
-    for whose sheets it brought a wrong key."""
+    for whose sheets it brought a wrong key. One that `is_to_stranger` has an answer to somebody outside the
+    club."""
 
     number: int
     digest: str
@@ -70,6 +71,7 @@ class Record:
     arrived: Moment = (0, 0, 0)
     warned: tuple[str, ...] = ()
     wrong_keys: tuple[str, ...] = ()
+    is_to_stranger: bool = False
 
     def to_json(self) -> bytes:
         return _json(asdict(self))

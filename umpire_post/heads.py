@@ -14,10 +14,10 @@ from email.parser import BytesHeaderParser
 from email.policy import Compat32
 
 from umpire_post.club import is_address
+from umpire_post.words import one_line, plain
 
 MAX_HEADS = 100 * 1024  # bytes of all heads
 MAX_HEAD = 4096  # characters of a head that is read
-MAX_NAME = 60  # characters of a name that is told
 MAX_SUBJECT = 1000  # characters of a subject
 MAX_SENDERS = 4  # From heads that are compared
 MAX_ANSWERED = 50  # messages that one answers
@@ -45,7 +45,8 @@ BOUNDED = BoundedHeads()
 class Heads:
     """What the heads say. `sender` is empty if there is not exactly one; `answers` has the Message-IDs of
     those that the message answers, the newest last; `recipients` the addresses to which it was sent;
-    `automatic` says which program wrote it, if one did; `are_too_long` that they were read in part."""
+    `automatic` says which program wrote it, if one did; `is_of_list` that a mailing list sent it on;
+    `are_too_long` that they were read in part."""
 
     sender: str = ""
     name: str = ""
@@ -54,6 +55,7 @@ class Heads:
     answers: tuple[str, ...] = ()
     recipients: tuple[str, ...] = ()
     automatic: str = ""
+    is_of_list: bool = False
     are_too_long: bool = False
 
 
@@ -80,20 +82,9 @@ def read_heads(content: bytes) -> Heads:
         _identities(parsed, "References", "In-Reply-To")[-MAX_ANSWERED:],
         _recipients(parsed),
         _automatic(parsed, sender),
+        _precedence(parsed) == "list" or "List-Id" in parsed,
         len(content) > MAX_HEADS and HEADS_END.search(content, 0, MAX_HEADS) is None,
     )
-
-
-def one_line(text: str) -> str:
-    """Returns a text of a message on one line, without control characters."""
-    return " ".join("".join(it if it.isprintable() else " " for it in text[:MAX_HEAD]).split())
-
-
-def plain(text: str) -> str:
-    """Returns a text of a message as it may be told: on one line, short, without control
-    characters."""
-    shown = one_line(text)
-    return shown if len(shown) <= MAX_NAME else shown[:MAX_NAME - 2] + ".."
 
 
 def decoded(head: object) -> str:
@@ -160,12 +151,15 @@ def _recipients(parsed: Message) -> tuple[str, ...]:
 def _automatic(parsed: Message, sender: str) -> str:
     """Returns which program's message it is, so that it is neither a sheet nor answered."""
     submitted = str(parsed.get("Auto-Submitted", "no")).split(";")[0].strip().lower()
-    precedence = str(parsed.get("Precedence", "")).strip().lower()
     local = sender.partition("@")[0].lower()
     if (parsed.get_content_type() in ("multipart/report", "message/delivery-status") or local in ("mailer-daemon", "postmaster")
-            or str(parsed.get("Return-Path", "")).strip() == "<>" or "X-Failed-Recipients" in parsed):
+            or "".join(str(parsed.get("Return-Path", "x")).split()) in ("<>", "") or "X-Failed-Recipients" in parsed):
         return "a notice of a mail system: perhaps a letter did not arrive"
-    if submitted != "no" or precedence in ("bulk", "junk", "auto_reply") or any(
+    if submitted != "no" or _precedence(parsed) in ("bulk", "junk", "auto_reply") or any(
             it in parsed for it in ("X-Autoreply", "X-Autorespond", "X-Autoresponder")):
         return "an automatic answer, such as a notice of absence"
     return ""
+
+
+def _precedence(parsed: Message) -> str:
+    return str(parsed.get("Precedence", "")).strip().lower()

@@ -1,61 +1,62 @@
 """What `in` does: messages are read, recorded and answered, many in one step."""
 
-from collections.abc import Iterable, Iterator, Sequence
-from dataclasses import dataclass, replace
+from collections.abc import Callable, Iterable, Iterator, Sequence
+from dataclasses import replace
+from datetime import datetime
 from pathlib import Path
+from typing import TypeVar
 
-from umpire_post import letters
-from umpire_post.answers import answer
 from umpire_post.club import Player
-from umpire_post.disk import Step
-from umpire_post.errors import SET_ASIDE, PostError
-from umpire_post.evening import Evening, counted, plain_sentence
-from umpire_post.folder import DEALT_WITH, OUTBOX, Folder, Messages, Record
+from umpire_post.entries import Entry, Written
+from umpire_post.errors import DEVICE_FAILED, SET_ASIDE, PostError
+from umpire_post.evening import Evening
+from umpire_post.folder import DEALT_WITH, Folder, Messages, Record
 from umpire_post.games import Place, named
-from umpire_post.heads import plain
-from umpire_post.letters import Letter
 from umpire_post.message import Incoming, take_apart
-from umpire_post.programs import BANKRUPT
-from umpire_post.reading import Reader, Reading
+from umpire_post.reading import Reader
 from umpire_post.routing import game_of
 from umpire_post.sources import Raw
+from umpire_post.strangers import Strangers
+from umpire_post.words import counted, listed, plain, shown
 
 # What is read before it is written, in one step.
 MOST_MESSAGES, MOST_BYTES = 500, 8 << 20
-
-
-@dataclass(frozen=True)
-class Entry:
-    """A message that was read, and is to be written: the folder that it belongs to, its record as far as
-    it is known, and what its answer says of sheets that are owed."""
-
-    box: Messages
-    raw: Raw
-    record: Record
-    incoming: Incoming
-    reading: Reading | None = None
-    owed: tuple[tuple[Player, list[str]], ...] = ()
-    is_accepted: bool = False
+Made = TypeVar("Made")
 
 
 class Intake:
-    """Reads messages for the games of a place."""
+    """Reads messages for the games of a place. Those on which the post itself fails are `failing`, each
+    with a sentence: nothing of them counts."""
 
     def __init__(self, evening: Evening, place: Place) -> None:
         self.evening = evening
         self.place = place
-        self.games = place.games()
-        self.shared = place.shared()
+        self.failing: dict[str, str] = {}
+        self.readers: dict[Path, Reader] = {}
+        self.known = 0
+        self._begin()
+
+    def _begin(self) -> None:
+        """Looks at the folders as they are now."""
+        self.close()
+        self.games = self.place.games()
+        self.shared = self.place.shared()
         self.boxes: list[Messages] = [*self.games, *([self.shared] if self.shared else [])]
         self.digests = set().union(*(it.digests for it in self.boxes))
-        self.readers: dict[Path, Reader] = {}
+        most = (self.shared or self.games[0]).club.strangers
+        self.strangers = Strangers((record for it in self.boxes for record in it.records), most)
 
     def __enter__(self) -> "Intake":
         return self
 
     def __exit__(self, *_: object) -> None:
+        self.close()
+
+    def close(self) -> None:
+        """Ends what the desk is asked."""
         for it in self.readers.values():
             it.close()
+        self.readers.clear()
 
     def reader(self, game: Folder) -> Reader:
         """Returns what reads messages for a game."""
@@ -63,42 +64,90 @@ class Intake:
             self.readers[game.top] = Reader(game, self.evening.programs_of(game.club), self.evening.report_of(game))
         return self.readers[game.top]
 
+    def take(self, batch: Sequence[Raw]) -> int:
+        """Reads those messages that were not read before, writes them, and tells of them. Returns of how many
+        something was set aside. If the post fails on one, all are read anew: what is said of the others may
+        depend on it."""
+        while True:
+            failed, entries, known = len(self.failing), [], 0
+            for raw in batch:
+                if raw.is_known(self.digests):
+                    known += 1
+                elif entry := self._tried(raw, lambda: self.read(raw)):
+                    entries.append(entry)
+            written = self._written(entries)
+            if len(self.failing) == failed:
+                self.known += known
+                return self.write(written)
+            self._begin()
+
     def read(self, raw: Raw) -> Entry:
         """Reads a message, for the game that it belongs to."""
         incoming = take_apart(raw)
+        if raw.digest in self.failing:
+            box = self.shared or self.games[0]
+            return self._kept(Entry(box, raw, replace(self._record(box, raw, incoming), aside=(self.failing[raw.digest],)), incoming))
         game = game_of(incoming, self.games, self._goes_on) if self.shared else self.games[0]
         if game:
             return self._read_for(game, raw, incoming)
         assert self.shared is not None
         record = replace(self._record(self.shared, raw, incoming), aside=(self._why_aside(incoming),))
-        return self._kept(Entry(self.shared, raw, record, incoming))
+        choice = () if incoming.automatic else tuple(it.club for it in self._played(incoming))
+        return self._kept(Entry(self.shared, raw, record, incoming, choice=choice))
 
-    def accept(self, game: Folder, record: Record, content: bytes) -> Entry:
-        """Reads a message once more, as the umpire accepts it, for a game."""
-        raw = Raw(content, len(content), record.arrived)
-        return self._read_for(game, raw, take_apart(raw), record)
+    def accept(self, game: Folder, messages: Iterable[tuple[Record, bytes]]) -> list[Written]:
+        """Reads messages once more, as the umpire accepts them, for a game. Fails if the post fails on one."""
+        entries = []
+        for record, content in messages:
+            raw = Raw(content, len(content), record.arrived)
+            if entry := self._tried(raw, lambda: self._read_for(game, raw, take_apart(raw), record)):
+                entries.append(entry)
+        written = self._written(entries)
+        for why in self.failing.values():
+            raise PostError(why)
+        return written
 
-    def write(self, entries: Sequence[Entry], dealt_with: Iterable[Path] = ()) -> int:
-        """Writes messages that were read, their records and their answers, and tells of them. Returns of how
-        many something was set aside."""
-        if not entries:
+    def write(self, written: Sequence[Written], dealt_with: Iterable[Path] = ()) -> int:
+        """Writes messages in one step, and tells of them. Returns of how many something was set aside."""
+        if not written:
             return 0
-        step = entries[0].box.step("in")
-        written = [_write(step, it, self._answers(it)) for it in entries]
-        for path in dealt_with:
-            step.put(path, b"")
+        step = written[0].entry.box.step("in")
+        for path, content in (*(file for it in written for file in it.files), *((it, b"") for it in dealt_with)):
+            step.put(path, content)
         step.commit()
-        for entry, record in zip(entries, written):
-            self._tell(entry, record)
-        return sum(bool(it.aside) for it in written)
+        for it in written:
+            whose = f"{it.entry.box.club.game} " if self.place.is_club else ""
+            self.evening.tell(whose + it.told())
+            tell_aside(self.evening, it.record, whose)
+        return sum(bool(it.record.aside) for it in written)
+
+    def _written(self, entries: Sequence[Entry]) -> list[Written]:
+        found = [self._tried(it.raw, lambda: it.written(self.evening.now())) for it in entries]
+        return [it for it in found if it]
+
+    def _tried(self, raw: Raw, make: Callable[[], Made]) -> Made | None:
+        """Returns what is made of a message, or nothing if that fails, which is no fault of a program or a
+        device."""
+        try:
+            return make()
+        except (PostError, OSError, MemoryError):
+            raise
+        except Exception as wrong:  # (whatever is wrong with one message, the next one is read)
+            if raw.digest in self.failing:
+                raise PostError(f"{self.failing[raw.digest]}, and it cannot be kept", DEVICE_FAILED) from wrong
+            self.failing[raw.digest] = f"the post fails on it ({type(wrong).__name__}), so nothing of it counts"
+            return None
 
     def _read_for(self, game: Folder, raw: Raw, incoming: Incoming, accepted: Record | None = None) -> Entry:
         reader = self.reader(game)
-        reading = reader.read(incoming, accepted)
-        record = replace(self._record(game, raw, incoming), sheets=tuple(it.sheet for it in reading.counting()),
-                         aside=tuple(reading.aside), wrong_keys=tuple(reading.wrong_keys))
+        reading, record = reader.read(incoming, accepted), self._record(game, raw, incoming)
+        is_asked = reading.is_of_stranger and reading.is_answered
+        if is_asked and not self.strangers.gets_answer(incoming.sender, datetime.fromisoformat(record.came)):
+            reading.leave_unanswered()
+        record = replace(record, sheets=tuple(it.sheet for it in reading.counting()), aside=tuple(reading.aside),
+                         wrong_keys=tuple(reading.wrong_keys))
         entry = self._kept(Entry(game, raw, record, incoming, reading, (), accepted is not None))
-        return replace(entry, owed=tuple((it, _owed(reader, it)) for it in self._answered(entry)))
+        return replace(entry, owed=tuple((it, _owed(reader, it)) for it in _answered(entry)))
 
     def _record(self, box: Messages, raw: Raw, incoming: Incoming) -> Record:
         return Record(box.next_message(), raw.digest, self.evening.time(), incoming.sender, incoming.subject, is_cut=raw.is_too_large,
@@ -118,69 +167,19 @@ class Intake:
         if incoming.refused or incoming.automatic:
             return incoming.refused or incoming.automatic
         if games:
-            return f"it names none of the games of its sender, {letters.listed(it.club.game for it in games)}"
+            return f"it names none of the games of its sender, {listed(it.club.game for it in games)}"
         return "it is from nobody of the club, and belongs to no game" if incoming.sender else "it has not exactly one sender"
 
     def _played(self, incoming: Incoming) -> list[Folder]:
         return [it for it in self.games if it.club.players_at(incoming.sender)]
 
-    def _answered(self, entry: Entry) -> list[Player]:
-        """Returns the players of whom an answer speaks: its senders, or if the umpire accepts a message those
-        of its sheets."""
-        assert entry.reading is not None
-        if not entry.is_accepted:
-            return list(entry.reading.senders)
-        names = dict.fromkeys(it.found.player for it in entry.reading.sheets)
-        return [entry.box.club.players[it] for it in names if it in entry.box.club.players]
-
-    def _answers(self, entry: Entry) -> list[Letter]:
-        """Makes the answers to a message: one to its sender, or if the umpire accepts it one to each player
-        of whom it has a sheet."""
-        club, number, now = entry.box.club, entry.record.number, self.evening.now()
-        if entry.reading is None:
-            return self._question(entry)
-        if entry.is_accepted:
-            return [answer(club, entry.reading, number, owed, now, to=it.addresses[0], name=f"{number:04}-answer-{it.name}", player=it)
-                    for it, owed in entry.owed]
-        if not entry.reading.is_answered or not entry.incoming.sender:
-            return []
-        all_owed = [line for _, owed in entry.owed for line in owed]
-        return [answer(club, entry.reading, number, all_owed, now, to=entry.incoming.sender, name=f"{number:04}-answer")]
-
-    def _question(self, entry: Entry) -> list[Letter]:
-        """Makes the letter that asks a player of several games for which of them a message is."""
-        games = self._played(entry.incoming)
-        if not games or entry.incoming.automatic:
-            return []
-        names = dict.fromkeys(player.name for it in games for player in it.club.players_at(entry.incoming.sender))
-        answers = [it for it in (entry.incoming.message_id,) if it]
-        return [letters.which_game(entry.box.club, f"{entry.record.number:04}-answer", entry.incoming.sender, letters.listed(names),
-                                   [it.club for it in games], answers, self.evening.now())]
-
-    def _tell(self, entry: Entry, record: Record) -> None:
-        """Tells what became of a message."""
-        names = ", ".join(f"{it.player} {it.round}" for it in record.sheets) or "no sheet"
-        found = sum(len(it.findings) for it in entry.reading.sheets) if entry.reading else 0
-        whose = f"{entry.box.club.game} " if self.place.is_club else ""
-        self.evening.tell(f"{whose}{record.number:04} {record.sender or 'without a sender'}: {names}"
-                          + (f", {counted(found, 'finding')}" if found else ""))
-        tell_aside(self.evening, record, whose)
-
 
 def read_messages(evening: Evening, place: Place, messages: Iterable[Raw]) -> int:
     """Reads messages. Returns as a status whether something was set aside."""
-    known = aside = 0
     with Intake(evening, place) as intake:
-        for batch in _batches(messages):
-            entries = []
-            for raw in batch:
-                if raw.is_known(intake.digests):
-                    known += 1
-                else:
-                    entries.append(intake.read(raw))
-            aside += intake.write(entries)
-    if known:
-        evening.tell(f"{known} read before")
+        aside = sum(intake.take(batch) for batch in _batches(messages))
+        if intake.known:
+            evening.tell(f"{intake.known} read before")
     return SET_ASIDE if aside else 0
 
 
@@ -192,8 +191,8 @@ def accept(evening: Evening, place: Place, numbers: Sequence[int], game: str | N
         if intake.shared and not game:
             raise PostError("say with --game for which game the message is")
         to = named(intake.games, game) if game else intake.games[0]
-        entries = [intake.accept(to, *_not_accepted(to, *box.message(it))) for it in numbers]
-        return SET_ASIDE if intake.write(entries, [box.in_inbox(it, DEALT_WITH) for it in numbers]) else 0
+        written = intake.accept(to, [_not_accepted(to, *box.message(it)) for it in numbers])
+        return SET_ASIDE if intake.write(written, [box.in_inbox(it, DEALT_WITH) for it in numbers]) else 0
 
 
 def say_done(evening: Evening, place: Place, numbers: Sequence[int]) -> int:
@@ -215,7 +214,7 @@ def tell_aside(evening: Evening, record: Record, whose: str = "") -> None:
     """Tells why something of a message was set aside."""
     for why in record.aside:
         subject = f" ({plain(record.subject)})" if record.subject else ""
-        evening.tell(f"set aside: {whose}message {record.number} from {record.sender or 'nobody'}{subject}: {plain_sentence(why)}")
+        evening.tell(f"set aside: {whose}message {record.number} from {record.sender or 'nobody'}{subject}: {shown(why)}")
 
 
 def _not_accepted(game: Folder, record: Record, content: bytes) -> tuple[Record, bytes]:
@@ -226,17 +225,14 @@ def _not_accepted(game: Folder, record: Record, content: bytes) -> tuple[Record,
     return record, content
 
 
-def _write(step: Step, entry: Entry, answers: Sequence[Letter]) -> Record:
-    """Puts a message into a step, with its answers and its whole record, which it returns."""
-    box, number = entry.box, entry.record.number
-    findings = [it for judged in (entry.reading.counting() if entry.reading else ()) for it in judged.findings]
-    warned = {it.player for it in entry.record.sheets if any(f"{it.player} IS {BANKRUPT}" in said for said in findings)}
-    record = replace(entry.record, letters=tuple(it.file for it in answers), warned=tuple(sorted(warned)))
-    step.put(box.in_inbox(number, ".eml"), entry.raw.content)
-    step.put(box.in_inbox(number, ".json"), record.to_json())
-    for it in answers:
-        step.put(box.top / OUTBOX / it.file, it.content)
-    return record
+def _answered(entry: Entry) -> list[Player]:
+    """Returns the players of whom an answer speaks: its senders, or if the umpire accepts a message those of
+    its sheets."""
+    assert entry.reading is not None
+    if not entry.is_accepted:
+        return list(entry.reading.senders)
+    players = entry.box.club.players
+    return [players[it] for it in dict.fromkeys(it.found.player for it in entry.reading.sheets) if it in players]
 
 
 def _owed(reader: Reader, player: Player) -> list[str]:

@@ -10,6 +10,7 @@ from email.utils import format_datetime
 
 from umpire_post.club import Club, Player
 from umpire_post.programs import Report
+from umpire_post.words import listed, shown
 
 COLUMNS = 78
 # (a line of a bulletin has up to 80 columns, and is to be left as it is; a host may take no other bytes
@@ -152,17 +153,6 @@ def findings_text(findings: Sequence[str]) -> str:
     if not findings:
         return "The desk finds nothing to correct in it, as things stand."
     return "The desk finds:\n\n" + "\n".join(wrapped(it) for it in findings)
-
-
-def listed(names: Iterable[str]) -> str:
-    """Returns names as a sentence lists them."""
-    *front, last = names
-    return f"{', '.join(front)} and {last}" if front else last
-
-
-def shown(text: str) -> str:
-    """Returns a text with ? in place of each character that is not printable."""
-    return "".join(it if it.isprintable() or it == "\n" else "?" for it in text)
 
 
 def wrapped(text: str, indent: str = "    ") -> str:

@@ -32,19 +32,11 @@ class Contents:
     refused: str = ""
 
 
-@dataclass
-class Incoming:
-    """A message taken apart. `sender` is empty if it has not exactly one; `answers` has the Message-IDs
-    of those that it answers, the newest last; `recipients` the addresses to which it was sent;
-    `automatic` says which program's message it is, if it is one."""
+@dataclass(frozen=True)
+class Incoming(Heads):
+    """A message taken apart: its heads, when it arrived, and what is below them."""
 
     arrived: Moment = (0, 0, 0)
-    sender: str = ""
-    subject: str = ""
-    message_id: str = ""
-    answers: tuple[str, ...] = ()
-    recipients: tuple[str, ...] = ()
-    automatic: str = ""
     contents: Contents = field(default_factory=Contents)
 
     @property
@@ -54,13 +46,13 @@ class Incoming:
 
 
 def take_apart(raw: Raw) -> Incoming:
-    """Takes a message apart. It never fails: of one that is refused it returns what its heads say."""
+    """Takes a message apart. Of one that is refused it returns what its heads say. It fails only if no process
+    can be begun."""
     try:
         heads = read_heads(raw.content)
     except Exception:  # (whatever the library raises on heads that no mail program writes)
-        return Incoming(raw.arrived, contents=Contents(refused=DAMAGED))
-    return Incoming(raw.arrived, heads.sender, heads.subject, heads.message_id, heads.answers, heads.recipients, heads.automatic,
-                    _contents(raw, heads))
+        return Incoming(arrived=raw.arrived, contents=Contents(refused=DAMAGED))
+    return Incoming(**vars(heads), arrived=raw.arrived, contents=_contents(raw, heads))
 
 
 def _contents(raw: Raw, heads: Heads) -> Contents:

@@ -5,13 +5,14 @@ from datetime import datetime
 from umpire_post import letters
 from umpire_post.deadlines import deadline
 from umpire_post.errors import PostError
-from umpire_post.evening import Evening, counted
+from umpire_post.evening import Evening
 from umpire_post.folder import DUE, HANDED_OVER, OUTBOX, SENT, Folder, Messages, due_text, in_doubt_in, letters_in
 from umpire_post.games import Place
 from umpire_post.intake import tell_aside
-from umpire_post.letters import Letter, listed
+from umpire_post.letters import Letter
 from umpire_post.programs import Report
 from umpire_post.rounds import outlook, put_letters, report_of, tell_outlook
+from umpire_post.words import counted, listed
 
 
 def status(evening: Evening, place: Place, finds: bool, reminds: bool) -> None:

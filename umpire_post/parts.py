@@ -11,7 +11,8 @@ from email.message import Message
 from email.parser import BytesParser
 from typing import Any
 
-from umpire_post.heads import BOUNDED, decoded, plain, split
+from umpire_post.heads import BOUNDED, decoded, split
+from umpire_post.words import plain
 
 MAX_LINES = 60_000
 MAX_PARTS = 40

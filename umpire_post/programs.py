@@ -29,6 +29,8 @@ BANKRUPT = "BANKRUPT"
 # The lines of a report that tell of a purchase that a company must make, and those that end it.
 OF_FORCED = (FORCED, "SELLS", "PRESIDENT", "AID", "TRADED", "TRAIN", BANKRUPT)
 ENDS_FORCED = ("TRAIN", BANKRUPT)
+ENDS_ROUND = re.compile(r"\n(?:AWAITING|END) ")
+REFUSED = re.compile(r"^[A-Z0-9]+ [0-9]+ REFUSED .*(?:\n .*)*", re.M)
 
 
 @dataclass(frozen=True)
@@ -62,7 +64,7 @@ class Report:
         """Returns the lines of the last round that tell what companies had to buy, and what their
         presidents had to sell and to pay for it."""
         found, within = [], False
-        for line in self._last_round():
+        for line in self.last_round():
             word = line.partition(" ")[0]
             within = within or word == FORCED
             if within and word in OF_FORCED:
@@ -72,10 +74,12 @@ class Report:
 
     def bankrupt(self) -> list[str]:
         """Returns who went bankrupt in the last round."""
-        return [it.partition(" ")[2] for it in self._last_round() if it.startswith(f"{BANKRUPT} ")]
+        return [it.partition(" ")[2] for it in self.last_round() if it.startswith(f"{BANKRUPT} ")]
 
-    def _last_round(self) -> list[str]:
-        return self.text.rpartition("\nROUND ")[2].split("\n") if self.played else []
+    def last_round(self) -> list[str]:
+        """Returns the lines of the last round."""
+        _, begin, rest = self.text.rpartition("\nROUND ")
+        return ENDS_ROUND.split(f"ROUND {rest}")[0].split("\n") if begin else []
 
 
 @dataclass(frozen=True)
@@ -135,7 +139,8 @@ class Programs:
 
     def check(self, orders: bytes, first: int, owed: Sequence[str] = ()) -> str:
         """Returns all that `check` says from a line of the file on. Of some players, `owed`, and not of
-        all it must say at its end that they owe a sheet."""
+        all it must say at its end that they owe a sheet. If nobody or everybody owes one, no line tells the
+        end: half of what it says is believed then, if that is whole lines."""
         status, out = self._run([*self.desk, "check", "--from", str(first)], orders)
         if status == FILE_REFUSED:
             raise PostError(out.strip() or "the desk refuses the file", FILE_REFUSED)
@@ -145,6 +150,16 @@ class Programs:
         if (out or status == FOUND) and not out.endswith("\n") or owed and not last.endswith(f": {', '.join(owed)}"):
             raise PostError("what desk check says has no end", DEVICE_FAILED)
         return out
+
+    def refused(self, orders: bytes, report: Report) -> list[str]:
+        """Returns the lines that the last round refuses, and below each why. Fails if the round is not there
+        to its end."""
+        status, out = self._run([*self.desk, "round", "--why"], orders)
+        self._succeeded("round", status)
+        lines = [it for it in out.split("\n") if it and not it.startswith(" ")]
+        if lines != report.last_round() or not out.endswith("\n"):
+            raise PostError("the round of the desk has no end", DEVICE_FAILED)
+        return [line for it in REFUSED.findall(out) for line in it.split("\n")]
 
     def bulletin(self, orders: bytes, report: Report, due: str) -> str:
         """Returns the last round for its players, and when the next sheets are due. Fails if the end of it

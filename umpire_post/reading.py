@@ -13,12 +13,11 @@ from dataclasses import dataclass, field
 from datetime import datetime
 
 from umpire_post.club import Club, Player
-from umpire_post.errors import PostError
 from umpire_post.folder import Folder, Pending, Record, Sheet, line_count, with_sheets
-from umpire_post.heads import plain
-from umpire_post.message import DAMAGED, Incoming
+from umpire_post.message import Incoming
 from umpire_post.programs import Programs, Report
 from umpire_post.sheets import Found
+from umpire_post.words import plain
 
 DAY = 24 * 60 * 60
 MOST_WRONG_KEYS = 5  # for a player within a day; after these the player's sheets wait for the umpire
@@ -67,6 +66,12 @@ class Reading:
     aside: list[str] = field(default_factory=list)
     wrong_keys: list[str] = field(default_factory=list)
     is_answered: bool = True
+    is_of_stranger: bool = False
+
+    def leave_unanswered(self) -> None:
+        """Leaves a message without an answer, and has the umpire know."""
+        self.is_answered = False
+        self.aside = [f"{it}, not answered" for it in self.aside]
 
     def counting(self) -> list[Judged]:
         """Returns the sheets that count."""
@@ -102,14 +107,6 @@ class Reader:
     def read(self, incoming: Incoming, accepted: Record | None = None) -> Reading:
         """Reads a message. If the umpire accepts one that was read before, its record is given: then the
         sender and the key are not looked at, and the sheets that counted are left out."""
-        try:
-            return self._read(incoming, accepted)
-        except (PostError, OSError):
-            raise
-        except Exception:  # (whatever is wrong with one message, the next one is read)
-            return self._set_aside(Reading(incoming), DAMAGED, False)
-
-    def _read(self, incoming: Incoming, accepted: Record | None) -> Reading:
         reading = Reading(incoming, self.club.players_at(incoming.sender))
         if incoming.refused:
             reading.said = [f"It was not read: {incoming.refused}.", *self._unchanged(reading)]
@@ -146,6 +143,7 @@ class Reader:
 
     def _of_stranger(self, reading: Reading) -> Reading:
         """A message from an address that is nobody's: its sheets do not count."""
+        reading.is_of_stranger = True
         sheets = reading.incoming.contents.found.sheets
         if not sheets:
             return self._set_aside(reading, "it is from nobody of the club, and has no sheet", False)
@@ -153,6 +151,8 @@ class Reader:
             whose = f"for {one.player} " if one.player in self.club.players else ""
             reading.aside.append(f"a sheet {whose}from an address that is nobody's")
             self._add(reading, one, "This address is nobody's in the club, so the sheet does not count. The umpire is told.", is_shown=False)
+        if reading.incoming.is_of_list or reading.incoming.sender.lower() == self.club.umpire.lower():
+            reading.leave_unanswered()
         return reading
 
     def _of_many_keys(self, reading: Reading) -> Reading:

@@ -10,14 +10,15 @@ from umpire_post import letters
 from umpire_post.club import Player
 from umpire_post.disk import Step
 from umpire_post.errors import FILE_REFUSED, PostError
-from umpire_post.evening import Evening, counted
+from umpire_post.evening import Evening
 from umpire_post.folder import (DUE, HANDED_OVER, ORDERS, OUTBOX, UNDONE, Folder, Round, Sheet, due_text, empty_sheet,
                                 line_count, with_sheets)
-from umpire_post.letters import Attached, Letter, listed
+from umpire_post.letters import Attached, Letter
 from umpire_post.programs import ALONE, Programs, Report
 from umpire_post.reading import findings_in
 from umpire_post.sheets import Found
 from umpire_post.text import Line
+from umpire_post.words import counted, listed
 
 
 @dataclass(frozen=True)
@@ -72,17 +73,22 @@ def outlook(folder: Folder, programs: Programs, report: Report) -> Played | None
 
 
 def tell_outlook(evening: Evening, programs: Programs, folder: Folder, played: Played) -> None:
-    """Tells what the desk finds with all sheets that are there, and what is bought and sold by force. Part
-    of it is for the umpire alone."""
+    """Tells what the desk finds in the sheets that are there, what the round refuses, and what is bought and
+    sold by force. Part of it is for the umpire alone."""
     here = [it for it in played.sheets if played.came[it.player] is not None]
     owed = played.before.owed_without(*((it.player, it.round) for it in here))
     text = programs.check(with_sheets(folder.orders, here), line_count(folder.orders) + 1, owed)
     evening.tell_all(text)
-    if ALONE in text:
-        evening.tell(f"  Keep everything below {ALONE} to yourself.")
-    if forced := played.after.forced():
-        evening.tell(f"{played.round} has these purchases and sales by force:")
-        evening.tell_all("\n".join(forced))
+    of_all = {"refuses these lines": programs.refused(played.orders, played.after),
+              "has these purchases and sales by force": played.after.forced()}
+    if ALONE not in text and any(of_all.values()):
+        evening.tell(f"  {ALONE}")
+    for what, lines in of_all.items():
+        if lines:
+            evening.tell(f"{played.round} {what}:")
+            evening.tell_all("\n".join(lines))
+    if ALONE in text or any(of_all.values()):
+        evening.tell(f"Keep everything below {ALONE} to yourself.")
 
 
 def undo(evening: Evening, folder: Folder, round_: str | None) -> None:

@@ -14,11 +14,13 @@ import mailbox
 import os
 import re
 import shutil
+import stat
 import tempfile
 import time
 from collections.abc import Iterable, Iterator
 from dataclasses import dataclass
 from email.utils import mktime_tz, parsedate_tz
+from itertools import accumulate
 from pathlib import Path
 from typing import BinaryIO
 
@@ -84,19 +86,27 @@ class Raw:
 def messages(source: Path | None, stdin: BinaryIO) -> Iterator[Raw]:
     """Yields the messages of a source, or of standard input if none is named."""
     if source is None:
-        with tempfile.TemporaryDirectory() as spool:
-            path = Path(spool) / "messages"
-            with open(path, "wb") as file:
-                shutil.copyfileobj(stdin, file)
-            seconds, nanoseconds = divmod(time.time_ns(), 10**9)
-            for at, raw in enumerate(_of_file(path)):
-                yield Raw(raw.content, raw.size, (seconds, nanoseconds // 1000, at))
+        yield from _of_stream(stdin)
     elif source.is_dir():
         yield from _of_folder(source)
     elif source.is_file():
         yield from _of_file(source)
+    elif source.exists():
+        with open(source, "rb") as stream:
+            yield from _of_stream(stream)
     else:
         raise PostError(f"there is no {source}")
+
+
+def _of_stream(stream: BinaryIO) -> Iterator[Raw]:
+    """Yields the messages of a stream. They arrive now."""
+    with tempfile.TemporaryDirectory() as spool:
+        path = Path(spool) / "messages"
+        with open(path, "wb") as file:
+            shutil.copyfileobj(stream, file)
+        seconds, nanoseconds = divmod(time.time_ns(), 10**9)
+        for at, raw in enumerate(_of_file(path)):
+            yield Raw(raw.content, raw.size, (seconds, nanoseconds // 1000, at))
 
 
 def _of_file(path: Path) -> Iterator[Raw]:
@@ -132,35 +142,44 @@ def _dated(line: bytes) -> int:
 
 def _of_folder(path: Path) -> Iterator[Raw]:
     inner = [path / "cur", path / "new"] if (path / "new").is_dir() else [path]
-    found = [it for folder in inner if folder.is_dir() for it in folder.iterdir() if it.is_file() and not it.name.startswith(".")]
-    moments = _of_names(found) if inner != [path] else _of_times(found)
-    for file, moment in moments:
-        if file.exists():  # (a mail program may have moved it meanwhile: then it is read next time)
-            yield _read(file, moment)
+    found = [it for folder in inner if folder.is_dir() for it in folder.iterdir() if not it.name.startswith(".")]
+    files = [(path, int(it.st_mtime)) for path, it in ((it, _status(it)) for it in found) if it and stat.S_ISREG(it.st_mode)]
+    for file, moment in _of_names(files) if inner != [path] else _of_times(files):
+        try:
+            raw = _read(file, moment)
+        except FileNotFoundError:  # (a mail program may have moved it meanwhile: then it is read next time)
+            continue
+        yield raw
 
 
-def _of_names(paths: Iterable[Path]) -> list[tuple[Path, Moment]]:
-    """Returns the files of a Maildir in the order in which they came."""
-    return sorted(((it, _named(it)) for it in paths), key=lambda it: (it[1], _by_number(it[0])))
+def _status(path: Path) -> os.stat_result | None:
+    """Returns what a path is, or nothing if it is not there."""
+    try:
+        return path.stat()
+    except FileNotFoundError:
+        return None
 
 
-def _named(path: Path) -> Moment:
+def _of_names(files: Iterable[tuple[Path, int]]) -> list[tuple[Path, Moment]]:
+    """Returns the files of a Maildir, each with its time, in the order in which they came."""
+    return sorted(((path, _named(path, seconds)) for path, seconds in files), key=lambda it: (it[1], _by_number(it[0])))
+
+
+def _named(path: Path, seconds: int) -> Moment:
     """Returns the moment that the name of a file of a Maildir tells, or the time of the file."""
     name = IN_MAILDIR.match(path.name)
     if name is None:
-        return (_modified(path), 0, 0)
+        return (seconds, 0, 0)
     micro, delivery = MICROSECONDS.search(name[3] or ""), DELIVERY.search(name[3] or "")
     return (int(name[1]), int(micro[1]) if micro else 0, int(delivery[1] if delivery else name[2] or 0))
 
 
-def _of_times(paths: Iterable[Path]) -> list[tuple[Path, Moment]]:
-    """Returns the files of a folder in the order of their names. None came before the one above it."""
-    found: list[tuple[Path, Moment]] = []
-    seconds = 0
-    for at, path in enumerate(sorted(paths, key=_by_number)):
-        seconds = max(seconds, _modified(path))
-        found.append((path, (seconds, 0, at)))
-    return found
+def _of_times(files: Iterable[tuple[Path, int]]) -> list[tuple[Path, Moment]]:
+    """Returns the files of a folder, each with its time, in the order of their names. None came before the
+    one above it."""
+    ordered = sorted(files, key=lambda it: _by_number(it[0]))
+    latest = accumulate((seconds for _, seconds in ordered), max)
+    return [(path, (seconds, 0, at)) for at, ((path, _), seconds) in enumerate(zip(ordered, latest))]
 
 
 def _by_number(path: Path) -> list[tuple[int, str]]:

@@ -1,8 +1,8 @@
 # The part `post`: a game by mail, from the inbox to the outbox.
 
 # The modules of umpire_post/tests, the longest first, and the parts of one.
-post_modules=(test_killed.Rounds test_killed.Steps test_killed.Clubs test_ten_rounds test_six_rounds test_evenings test_clubs test_faults test_deadlines test_page
-  test_delivery test_damaged test_threats test_messages)
+post_modules=(test_killed.Rounds test_killed.Steps test_killed.Full test_killed.Clubs test_ten_rounds test_answered test_six_rounds test_evenings test_clubs
+  test_faults test_deadlines test_page test_delivery test_damaged test_threats test_messages)
 # Those of messages from strangers, in parts that run side by side.
 post_modules+=(test_hostile.MadeByChance.test_{first,second,third,fourth} test_hostile.Attacks.test_{first,second,third,fourth} test_hostile.Failing
   test_arrival)
@@ -76,6 +76,10 @@ sees_wrong_post() {
       ;;
     raises) sees 'a post that an error of the library ends' 1 run_tests test_hostile.Failing.test_what_the_library_raises_sets_the_message_aside \
       "$(wrong_post 's/except Exception:/except ZeroDivisionError:/' message.py)" ;;
+    fault) sees 'a post that a fault of its own ends' 1 run_tests test_answered.Failing.test_in_the_answer \
+      "$(wrong_post 's/except Exception as wrong:/except ZeroDivisionError as wrong:/' intake.py)" ;;
+    strangers) sees 'a post that answers every stranger' 1 run_tests test_answered.Strangers.test_all_of_them_get_so_many_answers_a_day \
+      "$(wrong_post 's/len(self.recent) >= self.most/False/' strangers.py)" ;;
     older) sees 'an older sheet in place of a newer one' 1 run_tests test_arrival.Newest.test_an_older_message_replaces_no_newer_sheet \
       "$(wrong_post 's/DELIVERY = .*/DELIVERY = re.compile("no number")/' sources.py)" ;;
     closing) sees 'a closing among the orders' 1 run_tests test_messages "$(wrong_post 's/"kind regards", //' prose.py)" ;;
@@ -97,11 +101,11 @@ sees_wrong_post() {
         "$(wrong_post 's/until = time.monotonic() + seconds/until = time.monotonic() - 1/' disk.py)"
       ;;
     bankrupt)
-      sees 'a bankruptcy of which nobody was told' 1 run_tests test_evenings.Outlook \
+      sees 'a bankruptcy of which nobody was told' 1 run_tests test_evenings.Outlook.test_a_bankruptcy_of_which_no_letter_has_told \
         "$(wrong_post 's/    if not goes:/    if False:/' rounds.py)"
       ;;
     letter) sees 'another letter' 1 run_tests test_six_rounds "$(wrong_post '0,/It counts/s//It counted/' tests/six-rounds.outbox)" ;;
   esac
 }
 
-post_must_fail() { side_by_side sees_wrong_post letter twice step half lock bankrupt game key anybody guesses raises older closing; }
+post_must_fail() { side_by_side sees_wrong_post letter twice step half lock bankrupt game key anybody guesses raises fault strangers older closing; }

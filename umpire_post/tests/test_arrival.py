@@ -7,7 +7,9 @@ import os
 import tempfile
 import time
 import unittest
+from concurrent.futures import ThreadPoolExecutor
 from pathlib import Path
+from unittest import mock
 
 from umpire_post.answers import answer
 from umpire_post.folder import Record
@@ -83,6 +85,38 @@ class Arrival(unittest.TestCase):
         self.assertEqual(["9.eml", "10.eml", "11.eml"], self.bodies(self.place))
         self.assertEqual([(1_700_000_000, 0, 0), (1_700_000_000, 0, 1), (1_800_000_000, 0, 2)], self.moments(self.place))
 
+    def test_what_is_no_message_is_left_out(self) -> None:
+        """A folder, a pipe, a link to nothing, and a file that is moved while the others are read."""
+        path = self.maildir("1700000000.a.host", "1700000001.b.host", "1700000002.c.host", "1700000003.d.host", "x", "y")
+        (path / "cur" / "1700000004.folder").mkdir()
+        os.mkfifo(path / "cur" / "1700000005.pipe")
+        (path / "new" / "1700000006.link").symlink_to("nowhere")
+        (path / "new" / ".hidden").write_bytes(with_body("hidden"))
+        found = messages(path, NOTHING)
+        self.assertIn(b"1700000000.a", next(found).content)
+        (path / "new" / "1700000001.b.host").unlink()
+        self.assertEqual(["1700000002.c.host", "1700000003.d.host", "x", "y"], [it.content.partition(b"\n\n")[2].decode() for it in found])
+
+    def test_an_empty_mailbox_has_no_message_and_an_empty_file_of_a_maildir_is_one(self) -> None:
+        (self.place / "mbox").touch()
+        (self.place / "blank").write_bytes(b"\n\n")
+        path = self.maildir("1700000000.a.host")
+        (path / "cur" / "1700000000.a.host").write_bytes(b"")
+        self.assertEqual(([], [""], [""]), tuple(self.bodies(it) for it in (self.place / "mbox", self.place / "blank", path)))
+
+    def test_a_file_that_may_not_be_read_is_named(self) -> None:
+        path = self.maildir("1700000000.a.host")
+        with mock.patch("builtins.open", side_effect=PermissionError(13, "Permission denied", str(path))):
+            self.assertRaisesRegex(PermissionError, "Maildir", self.bodies, path)
+
+    def test_a_pipe_is_read_like_standard_input(self) -> None:
+        pipe = self.place / "pipe"
+        os.mkfifo(pipe)
+        with ThreadPoolExecutor() as threads:
+            written = threads.submit(pipe.write_bytes, mbox([with_body("a"), with_body("b")]))
+            self.assertEqual(["a", "b"], self.bodies(pipe))
+            written.result()
+
     def test_standard_input_arrives_now(self) -> None:
         before = int(time.time())
         found = [it.arrived for it in messages(None, io.BytesIO(mbox([with_body("a"), with_body("b")])))]
@@ -152,7 +186,8 @@ class Newest(Evenings):
 
     def test_an_older_message_replaces_no_newer_sheet(self) -> None:
         self.arrives("1700000000.M5_10.host", ["SHEET ANN PR1", "TURN", "BUY SV"], 1)
-        self.arrives("1700000000.M5_9.host", ["SHEET ANN PR1", "TURN", "BUY CS"], 2)
+        told = self.arrives("1700000000.M5_9.host", ["SHEET ANN PR1", "TURN", "BUY CS"], 2)
+        self.assertEqual("0002 ann@example.org: no sheet that counts", told.splitlines()[0])
         letter = (self.game / "outbox" / "0002-answer.eml").read_text()
         self.assertIn("A sheet of ANN for PR1 that arrived later is here, in message 1. That one\ncounts, and this one does not.", letter)
         self.assertEqual(["TURN", "BUY SV"], self.counting())

@@ -15,7 +15,7 @@ from umpire_post.tests.test_threats import HEADS
 
 SEED = 1830
 COUNT = 1000
-SECONDS = 2
+SECONDS = 2  # of a processor; what is below the heads is read in a process with a limit of its own
 PIECES = (
     b"\r", b"\n", b"\r\n\r\n", b"\0", b"\xff\xfe", b"\xef\xbb\xbf", b"\xe2\x80\xa8", b"=0D=0A", b"=?utf-8?q?=0A?=", b"> ", b"-- \n",
     b"SHEET BOB SR2\n", b"SHEET\tANN SR2\n", b"\xc5\xbfHEET ANN SR2\n", b"&#13;&#10;SHEET CYD SR2", b"KEY x\n", b"<blockquote>",
@@ -74,9 +74,9 @@ class Damaged(unittest.TestCase):
         counted = 0
         for number in range(COUNT):
             with self.subTest(number):
-                begun = time.monotonic()
+                begun = time.process_time()
                 reading = read(damaged(number))
-                self.assertLess(time.monotonic() - begun, SECONDS)
+                self.assertLess(time.process_time() - begun, SECONDS)
                 counted += len(reading.counting())
                 self.look_at_sheets(reading)
                 self.look_at_answer(reading)

@@ -2,12 +2,14 @@
 
 import io
 import os
+import re
 import sys
 import unittest
 from pathlib import Path
 from unittest import mock
 
 from umpire_post.disk import Step, locked
+from umpire_post.programs import Report
 from umpire_post.sources import KEPT_OF_LARGE, MAX_BYTES
 from umpire_post.tests.club import HERE
 from umpire_post.tests.evenings import THREE, UMPIRE, Evenings, mail, mbox, tree
@@ -243,6 +245,20 @@ class Outlook(Evenings):
         self.sell_a_train()
         self.assertIn("  AID ANN PRR 79\n", self.post("status", "--check"))
 
+    def test_what_the_round_refuses_with_all_sheets(self) -> None:
+        self.new()
+        self.comes(*(mail(it, [f"SHEET {it} PR1", "TURN", "BUY SV"], at) for at, it in enumerate(("ANN", "BOB"))))
+        refused = ("PR1 refuses these lines:\n  BOB 2 REFUSED A2 BUY SV\n    A2: the private is sold (ANN owns it)\n"
+                   "Keep everything below FOR THE UMPIRE ALONE to yourself.\n")
+        self.assertIn(refused, self.post("status", "--check"))
+        self.comes(mail("CYD", ["SHEET CYD PR1"], 3))
+        self.assertRegex(self.post("round"), rf"(?s)^  FOR THE UMPIRE ALONE.*{re.escape(refused)}PR1 was played")
+
+    def test_a_round_in_which_nothing_is_found(self) -> None:
+        self.new()
+        self.comes(*(mail(it, [f"SHEET {it} PR1"], at) for at, it in enumerate(("ANN", "BOB", "CYD"))))
+        self.assertEqual("PR1 was played. PR2 comes next. It awaits a sheet from each of ANN, BOB and CYD.\n", self.post("round"))
+
     def test_a_bankruptcy_of_which_no_letter_has_told(self) -> None:
         self.begin("OR5.1")
         before = tree(self.game)
@@ -251,6 +267,14 @@ class Outlook(Evenings):
         self.assertEqual(before, tree(self.game))
         self.assertIn("OR5.1 was played. The game is over.", self.post("round", "--go", "--without", "ANN", "BOB", "CYD"))
         self.assertIn("our-game: the game is over.", self.post("status"))
+
+    def test_a_bankruptcy_that_the_sheet_of_another_brings(self) -> None:
+        """The answer to ANN cannot tell of it."""
+        self.new()
+        self.comes(*(mail(it, [f"SHEET {it} PR1"], at) for at, it in enumerate(("ANN", "BOB", "CYD"))))
+        with mock.patch.object(Report, "bankrupt", lambda _: ["ANN"]):
+            self.assertIn("ANN goes bankrupt in PR1, and no letter has told ANN", self.post("round", status=1))
+            self.post("round", "--go")
 
     def test_a_bankruptcy_of_which_the_answer_has_told(self) -> None:
         self.begin("OR5.1")

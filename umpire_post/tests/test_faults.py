@@ -4,11 +4,13 @@ nothing has changed."""
 import email
 import multiprocessing
 import os
+import runpy
 import subprocess
 import time
 import unittest
 from email.policy import default
 from pathlib import Path
+from unittest import mock
 
 from umpire_post.disk import locked
 from umpire_post.programs import Programs
@@ -80,6 +82,12 @@ class Halves(Faulty):
     def test_findings_of_which_nothing_is_there(self) -> None:
         self.change_program("check", "true")
         self.assertIn("what desk check says has no end", self.fails("in", self.message()))
+
+    def test_a_round_without_its_end(self) -> None:
+        for cut in (1, 4, 40):
+            self.change_program("round", f"head -c -{cut}")
+            for words in (["round", *ALL], ["status", "--check"]):
+                self.assertIn("the round of the desk has no end", self.fails(*words))
 
     def test_a_bulletin_without_its_end(self) -> None:
         for cut in (1, 4, 200):
@@ -248,6 +256,20 @@ class Streams(Evenings):
         self.assertEqual(0, self.run_post('"$post" status "$game" >&-')[0])
         status, said = self.run_post('"$post" status "$game" > /dev/full')
         self.assertEqual((4, "post: a file, standard input or standard output: No space left on device\n"), (status, said))
+
+    def test_a_file_that_cannot_be_written_is_named(self) -> None:
+        self.new()
+        path = self.place / "message"
+        path.write_bytes(mail("ANN", [*EMPTY[0], *["# a remark"] * 1000], 1))
+        before = tree(self.game)
+        status, said = self.run_post(f'ulimit -f 8; "$post" in "$game" "{path}"')
+        self.assertEqual((4, f"post: {self.game.resolve()}/.step.new/files/inbox/0001.eml: File too large\n"), (status, said))
+        self.assertEqual(before, {name: it for name, it in tree(self.game).items() if not name.startswith(".step.new")})
+
+    def test_a_command_that_the_umpire_interrupts(self) -> None:
+        with mock.patch("umpire_post.commands.main", side_effect=KeyboardInterrupt), self.assertRaises(SystemExit) as ended:
+            runpy.run_path(str(POST))
+        self.assertEqual(130, ended.exception.code)
 
     def test_names_that_the_terminal_cannot_print(self) -> None:
         self.game = self.place / os.fsdecode(b"Z\xfcrich \xe2\x82\xac")

@@ -4,19 +4,23 @@ somebody who wants the post to stop, each read within the limits."""
 import email
 import fcntl
 import os
-import signal
+import pickle
 import tempfile
 import time
 import unittest
 from collections import Counter
+from collections.abc import Callable
+from concurrent.futures import ThreadPoolExecutor
 from email.policy import default
-from multiprocessing.connection import Connection
+from typing import TypeVar
 from unittest import mock
 
 from umpire_post.answers import answer
+from umpire_post.errors import PostError
 from umpire_post.limited import Exceeded, Limited
 from umpire_post.message import DAMAGED, contents_of
 from umpire_post.reading import Reading
+from umpire_post.tests import calls
 from umpire_post.tests.club import CLUB, KEY, Clock, read
 from umpire_post.tests.hostile import SHEET, attacks
 from umpire_post.tests.made import Made, Maker
@@ -25,6 +29,7 @@ from umpire_post.tests.test_threats import HEADS
 COUNT = 5000
 SECONDS, MEMORY = 2, 100 * 1024 * 1024  # for a message, whatever it holds
 READ = ("SHEET ANN SR2", "TURN", "BUY PRR IPO")
+Result = TypeVar("Result")
 
 
 class MadeByChance(unittest.TestCase):
@@ -116,67 +121,62 @@ class Failing(unittest.TestCase):
             with mock.patch("umpire_post.message.read_heads", side_effect=wrong("x")):
                 self.assertEqual([DAMAGED], read(b"From: ann@example.org\n\n" + SHEET.encode()).aside)
 
-    def test_what_the_judging_raises_sets_the_message_aside(self) -> None:
-        with mock.patch("umpire_post.reading.Reader._judge", side_effect=KeyError("x")):
-            reading = read(b"From: ann@example.org\n\n" + SHEET.encode())
-        self.assertEqual(([DAMAGED], [], False), (reading.aside, reading.sheets, reading.is_answered))
+    def test_a_call_that_exceeds_a_limit_or_fails_is_told(self) -> None:
+        for function, seconds in ((calls.never_ends, 0.2), (calls.takes_memory, 5), (calls.is_killed, 5), (calls.exits, 5), (calls.raises, 5)):
+            with self.subTest(function.__name__):
+                limited = self.limited(function, seconds)
+                self.assertEqual(b"one", limited(b"one"))
+                begun = time.monotonic()
+                self.assertRaises(Exceeded, limited, b"first")
+                self.assertLess(time.monotonic() - begun, 60)
+                self.assertEqual(b"two", limited(b"two"))
 
-    def test_a_call_that_never_ends_is_ended(self) -> None:
-        def never(_: bytes) -> int:
-            while True:
-                pass
-        self.assert_exceeded(never, 0.2)
-
-    def test_a_call_that_takes_too_much_memory_is_ended(self) -> None:
-        self.assert_exceeded(lambda _: len(b"x" * (300 << 20)), 5)
-
-    def test_a_call_that_ends_its_process_is_told(self) -> None:
-        self.assert_exceeded(lambda _: os.kill(os.getpid(), signal.SIGKILL) or 0, 5)
-        self.assert_exceeded(lambda _: os._exit(0), 5)
-
-    def test_a_call_that_raises_is_told(self) -> None:
-        self.assert_exceeded(lambda _: 1 // 0, 5)
-
-    def assert_exceeded(self, function: "object", seconds: float) -> None:
-        def first_fails(argument: bytes) -> int:
-            return function(argument) if argument == b"first" else len(argument)  # type: ignore[operator]
-
-        limited = Limited(first_fails, seconds, 50 << 20)
+    def limited(self, function: Callable[[bytes], Result], seconds: float = 5) -> Limited[Result]:
+        limited = Limited(function, seconds, 50 << 20)
         self.addCleanup(limited.end)
-        self.assertEqual(3, limited(b"one"))
-        begun = time.monotonic()
-        self.assertRaises(Exceeded, limited, b"first")
-        self.assertLess(time.monotonic() - begun, 60)
-        self.assertEqual(3, limited(b"two"))
+        return limited
 
     def test_its_process_has_nothing_open(self) -> None:
         """Else it would keep the lock of a folder."""
-        limited = Limited(len, 5, 50 << 20)
-        self.addCleanup(limited.end)
+        limited = self.limited(calls.echo)
         with tempfile.NamedTemporaryFile() as lock:
             with open(lock.name, "rb") as first:
                 fcntl.flock(first, fcntl.LOCK_EX)
-                self.assertEqual(1, limited(b"x"))
+                self.assertEqual(b"x", limited(b"x"))
             with open(lock.name, "rb") as second:
                 fcntl.flock(second, fcntl.LOCK_EX | fcntl.LOCK_NB)
 
+    def test_its_process_is_no_copy_of_one_with_threads(self) -> None:
+        """A copy would have the locks that threads hold, and nobody to let go of them."""
+        limited = self.limited(calls.process)
+        with mock.patch.object(os, "fork", side_effect=AssertionError("a copy")), ThreadPoolExecutor(4) as threads:
+            busy = [threads.submit(calls.never_ends, b"x") for _ in range(40)]
+            first = limited(b"x")
+            limited.end()
+            self.assertNotEqual(first, limited(b"x"))
+            self.assertEqual({b"x"}, {it.result() for it in busy})
+
     def test_a_call_that_is_interrupted_gives_its_answer_to_no_other(self) -> None:
-        limited = Limited(lambda it: it, 5, 50 << 20)
-        self.addCleanup(limited.end)
+        limited = self.limited(calls.echo)
         limited(b"x")
-        with mock.patch.object(Connection, "recv", side_effect=KeyboardInterrupt):
+        with mock.patch.object(pickle, "load", side_effect=KeyboardInterrupt):
             self.assertRaises(KeyboardInterrupt, limited, b"first")
         self.assertEqual(b"second", limited(b"second"))
 
     def test_a_process_that_was_forked_begins_its_own(self) -> None:
-        limited = Limited(len, 5, 50 << 20)
-        self.addCleanup(limited.end)
-        limited(b"x")
+        limited = self.limited(calls.process)
+        own = limited(b"x")
         child = os.fork()
         if child == 0:
-            os._exit(limited(b"two") if limited(b"x") == 1 else 0)
-        self.assertEqual(2, limited(b"xx"))
+            os._exit(3 if limited(b"x") != own else 0)
+        self.assertEqual(own, limited(b"xx"))
         self.assertEqual(3, os.waitstatus_to_exitcode(os.waitpid(child, 0)[1]))
+
+    def test_a_process_that_does_not_start_is_no_fault_of_a_message(self) -> None:
+        with mock.patch("umpire_post.limited.SERVE", "raise SystemExit"):
+            self.assertRaisesRegex(PostError, "does not start", self.limited(calls.echo), b"x")
+        with mock.patch("sys.executable", "/nowhere/python"):
+            self.assertRaises(OSError, self.limited(calls.echo), b"x")
 
     def test_what_takes_too_much_is_set_aside(self) -> None:
         with mock.patch("umpire_post.message._LIMITED", side_effect=Exceeded()):

@@ -1,8 +1,9 @@
-"""Each command is killed at each of its writes, and then run again: nothing is lost, doubled or half
-done."""
+"""Each command is killed at each of its writes, or finds the disk full there, and is then run again:
+nothing is lost, doubled or half done."""
 
 import builtins
 import contextlib
+import errno
 import io
 import os
 import secrets
@@ -14,12 +15,13 @@ from pathlib import Path
 from typing import IO, Any
 from unittest import mock
 
-from umpire_post import disk
+from umpire_post import disk, message
 from umpire_post.commands import main
+from umpire_post.errors import DEVICE_FAILED, SET_ASIDE
 from umpire_post.tests.evenings import MARK, THREE, UMPIRE, Evenings, mail, mbox, tree
 from umpire_post.tests.programs import PROGRAMS
 
-KILLED, BROKEN = 77, 78
+KILLED, BROKEN, WELL = 77, 78, 79
 NOON = datetime(2026, 11, 2, 12, 0, tzinfo=timezone.utc)
 MOST = 400  # writes of a command
 WRITES = ("rename", "replace", "unlink", "rmdir", "mkdir", "fsync", "sync")
@@ -27,10 +29,12 @@ SENDMAIL = "#!/bin/sh\nwhile [ \"$1\" != -- ]; do shift; done\n{ echo \"$2\"; ca
 
 
 class Killer:
-    """Counts the writes of this process, and ends it at one of them: before it, or in its middle."""
+    """Counts the writes of this process, and ends it at one of them, or finds the disk full: before it, or in
+    its middle."""
 
-    def __init__(self, at: int) -> None:
+    def __init__(self, at: int, is_full: bool) -> None:
         self.left = at
+        self.is_full = is_full
 
     def counted(self, write: Callable[..., Any]) -> Callable[..., Any]:
         def run(*words: Any, **named: Any) -> Any:
@@ -40,6 +44,8 @@ class Killer:
 
     def count(self) -> None:
         self.left -= 1
+        if self.left == 0 and self.is_full:
+            raise OSError(errno.ENOSPC, os.strerror(errno.ENOSPC))
         if self.left == 0:
             os._exit(KILLED)
 
@@ -78,20 +84,26 @@ def run(words: Sequence[str]) -> int:
 
 def is_killed(words: Sequence[str], at: int) -> bool:
     """Runs a command in a process of its own that is killed at a write. Returns whether it came so far."""
+    status = status_of(words, at, False)
+    assert status in (0, KILLED), f"the child ended with status {status}"
+    return status == KILLED
+
+
+def status_of(words: Sequence[str], at: int, is_full: bool) -> int:
+    """Runs a command in a process of its own that is killed at a write, or finds the disk full there. Returns
+    its status, or WELL if it succeeded all the same, and 0 if it does not write so often."""
     child = os.fork()
     if child == 0:
         try:
-            killer = Killer(at)
+            killer = Killer(at, is_full)
             for name in WRITES:
                 setattr(os, name, killer.counted(getattr(os, name)))
             setattr(disk, "open", killer.open)
-            run(words)
-            os._exit(0)
+            status = run(words)
+            os._exit(0 if killer.left > 0 else WELL if status in (0, SET_ASIDE) else status)
         finally:
             os._exit(BROKEN)  # (no test goes on in the child)
-    status = os.waitstatus_to_exitcode(os.waitpid(child, 0)[1])
-    assert status in (0, KILLED), f"the child ended with status {status}"
-    return status == KILLED
+    return os.waitstatus_to_exitcode(os.waitpid(child, 0)[1])
 
 
 class Killed(Evenings):
@@ -99,9 +111,9 @@ class Killed(Evenings):
 
     def setUp(self) -> None:
         super().setUp()
-        known = mock.patch.object(secrets, "token_hex", lambda _: MARK)
-        known.start()
-        self.addCleanup(known.stop)
+        self.enterContext(mock.patch.object(secrets, "token_hex", lambda _: MARK))
+        # (a process that reads messages takes most of the time of one that is killed, and writes nothing)
+        self.enterContext(mock.patch.object(message, "_LIMITED", message.contents_of))
 
     def look_at(self, words: Sequence[str], named: str = "") -> None:
         """Kills a command at each write. Run again, it must leave what it leaves when nothing happens; so
@@ -126,6 +138,29 @@ class Killed(Evenings):
                 self.assertEqual(owed, tree(self.game), f"write {at}, {between}")
             if not was_killed:
                 break
+        self.assertGreater(at, 5)
+        self.assertLess(at, MOST - 1)
+
+    def look_at_full(self, words: Sequence[str]) -> None:
+        """Has a command find the disk full at each write. It must fail, and change nothing; or it did its work
+        all the same, or the next command finishes it. Run again it must leave what it leaves when nothing happens."""
+        before = self.place / "before"
+        shutil.copytree(self.game, before)
+        run(words)
+        owed = tree(self.game)
+        for at in range(1, MOST):
+            shutil.rmtree(self.game)
+            shutil.copytree(before, self.game)
+            status = status_of(words, at, True)
+            if status == 0:
+                break
+            is_done = status == WELL or any(self.game.glob(f"{disk.DONE}*"))
+            self.assertIn(status, (DEVICE_FAILED, WELL), f"write {at}")
+            if not is_done:
+                self.assertEqual(tree(before), {name: it for name, it in tree(self.game).items() if not name.startswith(disk.BEGUN)}, f"write {at}")
+            if status != WELL:
+                run(words)
+            self.assertEqual(owed, tree(self.game), f"write {at}")
         self.assertGreater(at, 5)
         self.assertLess(at, MOST - 1)
 
@@ -167,6 +202,26 @@ class Steps(Killed):
     def test_status_that_reminds(self) -> None:
         self.begun()
         self.look_at(["status", str(self.game), "--remind"])
+
+
+class Full(Killed):
+    def test_in(self) -> None:
+        self.begun()
+        self.look_at_full(["in", str(self.game), str(self.came())])
+
+    def test_round(self) -> None:
+        self.begun()
+        run(["in", str(self.game), str(self.came())])
+        self.look_at_full(["round", str(self.game)])
+
+    def test_undo(self) -> None:
+        self.begun()
+        run(["round", str(self.game), "--without", "ANN", "BOB", "CYD"])
+        self.look_at_full(["undo", str(self.game), "PR1"])
+
+    def test_due(self) -> None:
+        self.begun()
+        self.look_at_full(["due", str(self.game), "2026-11-08 18:00"])
 
 
 class Clubs(Killed):

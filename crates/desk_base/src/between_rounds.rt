@@ -109,9 +109,7 @@ fn end_shown(outcome: Option<End>, last: Option<Round>, history: &History) -> En
 
 /// Plays the game of some sheets up to the end of a round. Fails with `Round` if that round is not
 /// played.
-#[tactic(auto, using(crate::proofs::MomentLemmas::at_start, crate::proofs::MomentLemmas::one_step_on,
-    crate::proofs::PlayedLemmas::none_at_first, crate::proofs::PlayedLemmas::none_one_step_on,
-    crate::proofs::PlayedLemmas::last_is_other, crate::proofs::PlayedLemmas::not_played_at_end))]
+#[tactic(auto, using(crate::proofs::MomentLemmas::at_start, crate::proofs::MomentLemmas::one_step_on, crate::proofs::PlayedLemmas::none_at_first, crate::proofs::PlayedLemmas::none_one_step_on, crate::proofs::PlayedLemmas::last_is_other, crate::proofs::PlayedLemmas::not_played_at_end))]
 pub fn play_behind<'a>(
     alloc: Global,
     sheets: &'a Sheets<'a>,
@@ -139,9 +137,7 @@ pub fn play_behind<'a>(
 
 /// Plays the game of some sheets up to the start of a round. Fails with `Round` if that round is
 /// not played.
-#[tactic(auto, using(crate::proofs::MomentLemmas::at_start, crate::proofs::MomentLemmas::one_step_on,
-    crate::proofs::PlayedLemmas::none_at_first, crate::proofs::PlayedLemmas::none_one_step_on,
-    crate::proofs::PlayedLemmas::next_is_other, crate::proofs::PlayedLemmas::not_played_at_end))]
+#[tactic(auto, using(crate::proofs::MomentLemmas::at_start, crate::proofs::MomentLemmas::one_step_on, crate::proofs::PlayedLemmas::none_at_first, crate::proofs::PlayedLemmas::none_one_step_on, crate::proofs::PlayedLemmas::next_is_other, crate::proofs::PlayedLemmas::not_played_at_end))]
 pub fn play_before<'a>(
     alloc: Global,
     sheets: &'a Sheets<'a>,

@@ -63,8 +63,7 @@ fn coming_at_last<'a>(alloc: Global, sheets: &'a Sheets<'a>) -> Result<Coming<'a
 }
 
 /// Returns the game after a round.
-#[tactic(auto, using(crate::proofs::MomentLemmas::is_coming_after, crate::proofs::PlayedLemmas::no_moment_behind,
-    crate::proofs::PlayedLemmas::shows_behind))]
+#[tactic(auto, using(crate::proofs::MomentLemmas::is_coming_after, crate::proofs::PlayedLemmas::no_moment_behind, crate::proofs::PlayedLemmas::shows_behind))]
 fn coming_after<'a>(
     alloc: Global,
     sheets: &'a Sheets<'a>,

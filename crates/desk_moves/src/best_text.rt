@@ -55,11 +55,7 @@ fn meant_trains(
 }
 
 /// Returns the trains of a company. Fails with `NoTrains` if it has none.
-fn own_trains(
-    alloc: Global,
-    history: &History,
-    company: Company,
-) -> Result<Vec<Kind>, MovesFault>
+fn own_trains(alloc: Global, history: &History, company: Company) -> Result<Vec<Kind>, MovesFault>
     ensures { IfOk result (λ trains. trains.items ≡ trains_now history.now.events company) }
 {
     let trains = trains_of(alloc, &history.now(), company)?;

@@ -9,8 +9,9 @@ use crate::groups::{Group, Whose, groups_of};
 use crate::left_lines::{Left, Presided, ruled_in};
 use crate::train_runs::push_ran;
 use desk_base::Piece::{Bytes, Column, Cut, Number, Right, Words};
-use desk_base::{DeskFault, Piece, fill, push, push_wrapped, push_wrapped_lines, view_behind};
-use desk_base::{was_played, who};
+use desk_base::{
+    DeskFault, Piece, fill, push, push_wrapped, push_wrapped_lines, view_behind, was_played, who,
+};
 use desk_why::{FAULTY_COLUMNS, Ruled, SheetLine, find_line, lines_of, push_rule};
 use history::{Event, GameView, History, Holder, PackedRuling, Ruling, Verdict, Walk};
 use order_grammar::{print_condition, print_order};

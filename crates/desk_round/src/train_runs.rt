@@ -8,7 +8,9 @@ ghost use Rattle.sheets.specs.File.{IsAccepted};
 
 use crate::round_texts::{Told, tell};
 use desk_base::Piece::{Number, Words};
-use desk_base::{DeskFault, Piece, best_at, board_at, fill, push, push_run, view_behind, was_played};
+use desk_base::{
+    DeskFault, Piece, best_at, board_at, fill, push, push_run, view_behind, was_played,
+};
 use desk_why::within_then;
 use history::{Event, GameView, History, Ruling, Walk};
 use order_grammar::{Order, PlayOrder};
@@ -49,7 +51,11 @@ fn round_with_runs(game: &Game, asked: Option<Round>) -> Result<Round, DeskFault
     ensures fault { IfErr result (HasNoText game.now (round_asked game.now asked)) }
 {
     let history = game.history();
-    match (asked, last_with_runs(history.events()), history.now().round()) {
+    match (
+        asked,
+        last_with_runs(history.events()),
+        history.now().round(),
+    ) {
         (Some(round), _, _) if was_played(history.events(), round) => Ok(round),
         (None, Some(round), _) | (None, None, Some(round)) => Ok(round),
         _ => Err(DeskFault::Round),

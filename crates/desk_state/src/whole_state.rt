@@ -2,7 +2,7 @@
 //!
 //! Its facts come from the readers of the game's list, or from `purse`, `earnings`, `stack` and
 //! `stock_left`, whose contracts define them. The rest is layout.
-ghost use Rattle.std.specs.Prelude.{IfErr, OnOk};
+ghost use Rattle.std.specs.Prelude.{IfErr, IfOk, None, OnOk, Some};
 ghost use Rattle.desk_base.specs.Played.{IsMomentFault, IsPlayedIn, IsRoundFault, ShowsNone};
 ghost use Rattle.sheets.specs.File.{IsAccepted};
 
@@ -39,8 +39,7 @@ pub enum StateForm {
 ///
 /// Fails with `File` if the file is refused, with `Round` if the moment names a round that was not
 /// played, or is `BeforeLast` and no round was, and with `Memory` if allocation fails.
-#[tactic(auto, using(desk_base::proofs::Refusals::none_where_it_fails,
-    desk_base::proofs::PlayedLemmas::no_moment_where_it_fails))]
+#[tactic(auto, using(desk_base::proofs::Refusals::none_where_it_fails, desk_base::proofs::PlayedLemmas::no_moment_where_it_fails))]
 pub fn state(
     alloc: Global,
     file: &[u8],
@@ -55,9 +54,7 @@ pub fn state(
 }
 
 /// Returns the state of the game of some sheets at a moment.
-#[tactic(auto, using(desk_base::proofs::PlayedLemmas::no_moment_behind,
-    desk_base::proofs::PlayedLemmas::no_moment_before, desk_base::proofs::PlayedLemmas::no_moment_before_any,
-    desk_base::proofs::PlayedLemmas::no_moment_before_last))]
+#[tactic(auto, using(desk_base::proofs::PlayedLemmas::no_moment_behind, desk_base::proofs::PlayedLemmas::no_moment_before, desk_base::proofs::PlayedLemmas::no_moment_before_any, desk_base::proofs::PlayedLemmas::no_moment_before_last))]
 fn state_at(
     alloc: Global,
     sheets: &Sheets,
@@ -108,8 +105,7 @@ fn text_before(
 }
 
 /// Returns the state of the game of some sheets after the last round.
-fn state_at_last(alloc: Global, sheets: &Sheets, form: StateForm) -> Result<Vec<u8>, AllocError>
-{
+fn state_at_last(alloc: Global, sheets: &Sheets, form: StateForm) -> Result<Vec<u8>, AllocError> {
     let game = play(alloc, sheets)?;
     state_text(alloc, &stood_at_last(&game), form)
 }

@@ -1,6 +1,6 @@
 //! The bulletin of a round: its turns as its players read them, and a statement of what they have
 //! after it; and the same on a page.
-ghost use Rattle.std.specs.Prelude.{IfErr, OnOk};
+ghost use Rattle.std.specs.Prelude.{IfErr, None, OnOk, Some};
 ghost use Rattle.desk_base.specs.Played.{HasNoRound, IsRoundFault};
 ghost use Rattle.rounds.specs.Play.{IsTheGame};
 ghost use Rattle.sheets.specs.File.{IsAccepted};
@@ -19,8 +19,7 @@ use tables::Round;
 /// played, in lines of at most 80 columns. `due` says when the next sheets are due; it may be
 /// empty. Fails with `File` if the file is refused, with `Round` if that round was not played or no
 /// round was, and with `Memory` if allocation fails.
-#[tactic(auto, using(desk_base::proofs::Refusals::none_where_it_fails,
-    desk_base::proofs::PlayedLemmas::no_round_where_it_fails))]
+#[tactic(auto, using(desk_base::proofs::Refusals::none_where_it_fails, desk_base::proofs::PlayedLemmas::no_round_where_it_fails))]
 pub fn bulletin(
     alloc: Global,
     file: &[u8],
