@@ -1,5 +1,5 @@
 -- What colours of tiles open with a kind, by the table of next kinds and by the rules of a lay.
-use Rattle.std.proofs.Common.{◌≡◌, Some, None, Option, unwrap_or, true, false, refl, ap, subst}
+use Rattle.std.proofs.Common.{◌≡◌, Some, Option, unwrap_or, true, false, refl, ap, subst}
 use Rattle.board.specs.LayRules.{is_colour_closed}
 use Rattle.desk_dues.specs.Laws.{TilesOpenAsRuled}
 use Rattle.desk_dues.specs.NextKind.{colour_opened_by, kind_after}

@@ -1,6 +1,5 @@
 -- What rusts with a kind, by the table of next kinds and by that of the rules, kind by kind.
 use Rattle.std.proofs.Common.{◌≡◌, Some, refl}
-use Rattle.desk_dues.specs.Laws.{RustsAsRuled, RustsNoOther}
 use Rattle.desk_dues.specs.NextKind.{rusted_with}
 use Rattle.tables.specs.Train.{rusting_of}
 use Rattle.tables.specs.declared.rolling_stock.Kind.{Kind}

@@ -1,8 +1,8 @@
 -- The kind of train that comes next, whose first sale by the bank begins a phase, and what it
 -- brings: the trains that rust, the limit of trains, the tiles that may be laid, the privates that
 -- close or may be sold to companies, and the rounds of a set.
-use Rattle.std.specs.Prelude.{ℕ, ◌+◌, ◌-◌, ◌==◌, Bool, ◌&&◌, nat_lt, if◌then◌else◌, List, [], ◌∷◌, Option, Some, None}
-use Rattle.std.specs.Prelude.{option_map, is_some, sum_by, pos, ℤ, ◌-ℤ◌}
+use Rattle.std.specs.Prelude.{ℕ, ◌-◌, Bool, ◌&&◌, nat_lt, if◌then◌else◌, List, Option, Some, None}
+use Rattle.std.specs.Prelude.{option_map, is_some, pos, ℤ, ◌-ℤ◌}
 use Rattle.std.specs.List.{list_any}
 use Rattle.desk_dues.specs.declared.coming_kind.NextKind.{NextKind}
 use Rattle.events.specs.declared.event.Event.{Event}
@@ -11,7 +11,7 @@ use Rattle.map_tables.specs.declared.tiles.Colour.TheVariants.{Green, Brown}
 use Rattle.totals.specs.LookBack.{owner_of}
 use Rattle.totals.specs.Trains.{at_least_zero, phase_of, train_count, trains_held, trains_sold}
 use Rattle.tables.specs.Roster.{privates}
-use Rattle.tables.specs.Train.{index_of_kind, kinds, limit_of, rounds_in_set_of, same_kind, trains_of}
+use Rattle.tables.specs.Train.{index_of_kind, limit_of, rounds_in_set_of, same_kind, trains_of}
 use Rattle.tables.specs.declared.rolling_stock.Kind.{Kind}
 use Rattle.tables.specs.declared.rolling_stock.Kind.TheVariants.{Two, Three, Four, Five, Six, Diesel}
 use Rattle.tables.specs.declared.roster.Company.{Company}

@@ -1,7 +1,7 @@
 -- The rows of RAISE lines. Where a company must buy a train, its president is told what becomes of the order to sell from one
 -- share of a company to all that they have of it, company by company, each as the first RAISE of the turn. It brings the
 -- market price for each share.
-use Rattle.std.specs.Prelude.{ℕ, Bool, true, if◌then◌else◌, List, [], ◌∷◌, Option, None, pos}
+use Rattle.std.specs.Prelude.{ℕ, Bool, true, if◌then◌else◌, List, [], ◌∷◌, None, pos}
 use Rattle.std.specs.Int.Signed.{le_z}
 use Rattle.std.specs.List.{flat_map}
 use Rattle.certs.specs.declared.share_deal.Sale.{Sale}

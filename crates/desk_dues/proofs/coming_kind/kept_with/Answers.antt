@@ -1,9 +1,9 @@
-use Rattle.std.proofs.Common.{◌≡◌, ℤ, Some, ◌-ℤ◌, ap, subst, sym, ◌∙◌}
+use Rattle.std.proofs.Common.{◌≡◌, ℤ, Some, ◌-ℤ◌, ap, ◌∙◌}
 use Rattle.std.proofs.lemmas.Int.{to_z-of_z}
 use mir.Syntax.{w64}
 use Rattle.desk_dues.proofs.Numbers.{counted, moderates_less}
 use Rattle.desk_dues.specs.NextKind.{rusting_held}
-use Rattle.totals.specs.LookBack.{Game, IsModerate}
+use Rattle.totals.specs.LookBack.{Game}
 use Rattle.totals.specs.Trains.{train_count}
 use Rattle.desk_dues.proofs.coming_kind.kept_with.Goals as goal
 
