@@ -1,6 +1,6 @@
 -- Who runs next: the companies in operating order, with what each has and what it last earned. And
 -- what a company has to pay that must buy a train.
-use Rattle.std.specs.Prelude.{ℕ, Bool, true, false, if◌then◌else◌, List, Option, option_map, map}
+use Rattle.std.specs.Prelude.{ℕ, Bool, true, false, if◌then◌else◌, List, Option, option_map, map, pos}
 use Rattle.std.specs.List.{fold}
 use Rattle.desk_dues.specs.Raised.{raised_at_most_by}
 use Rattle.desk_state.specs.Earnings.{earnings_of}
@@ -44,7 +44,7 @@ runner_row game before company = record {
   price = share_price game.events company;
   price_before = share_price before.events company;
   round = (earnings_of company game.events).round;
-  dollars = (earnings_of company game.events).dollars;
+  dollars = pos (earnings_of company game.events).dollars;
   is_kept = is_kept company game.events;
   cash = cash_of game.seats game.events (party_of_company company);
 }

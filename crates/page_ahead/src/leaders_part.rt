@@ -23,8 +23,7 @@ pub(crate) fn put_leaders(out: &mut Writer, panel: &Panel, rows: &[Leader]) {
     };
     for row in rows {
         begin_row(out, "");
-        let words = [Count(row.rank), Words(" "), Name(panel.name(row.seat))];
-        put_row_head(out, &words);
+        put_ranked(out, row.rank, panel.name(row.seat));
         out.begin_as(Tag::Cell, "num");
         out.element(Tag::Bold, &[Number(row.worth)]);
         out.end();
@@ -35,6 +34,11 @@ pub(crate) fn put_leaders(out: &mut Writer, panel: &Panel, rows: &[Leader]) {
     }
     out.end();
     out.end();
+}
+
+/// Adds the heading of a player's row: their rank and their name.
+fn put_ranked(out: &mut Writer, rank: usize, name: &[u8]) {
+    put_row_head(out, &[Count(rank), Words(" "), Name(name)]);
 }
 
 /// Adds a cell with a change.

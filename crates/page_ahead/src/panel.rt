@@ -107,10 +107,15 @@ fn put_awaited(out: &mut Writer, panel: &Panel) {
     let mut before = "owed by ";
     for number in 0..panel.players.seats {
         if panel.owe.get(number) == Some(&true) {
-            out.put(&[Words(before)]);
-            out.element(Tag::Bold, &[Name(panel.name(Seat::at(number)))]);
+            put_owing(out, before, panel.name(Seat::at(number)));
             before = ", ";
         }
     }
     out.end();
+}
+
+/// Adds a player who owes a sheet, behind these words.
+fn put_owing(out: &mut Writer, before: &'static str, name: &[u8]) {
+    out.put(&[Words(before)]);
+    out.element(Tag::Bold, &[Name(name)]);
 }

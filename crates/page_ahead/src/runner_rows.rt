@@ -29,7 +29,7 @@ pub struct Runner {
     /// The round in which it last operated; `None` if it never did.
     pub round: Option<Round>,
     /// What its runs earned in that round, in dollars.
-    pub dollars: u128,
+    pub dollars: Money,
     /// Whether it kept that.
     pub is_kept: bool,
     /// In dollars.
@@ -75,7 +75,7 @@ fn runner_row(history: &History, before: &GameView, company: Company) -> Runner
         price: share_price(&view, company),
         price_before: share_price(before, company),
         round: earnings.round,
-        dollars: earnings.dollars,
+        dollars: earnings.dollars as Money,
         is_kept: is_kept(history.events(), company),
         cash: history.cash(Party::of_company(company)),
     }

@@ -64,7 +64,7 @@ fn put_row(out: &mut Writer, panel: &Panel, row: &Runner) {
     put_price(out, row.price_before.unwrap_or(0), row.price.unwrap_or(0));
     if row.round.is_some() {
         out.begin_as(Tag::Cell, "num");
-        out.element(Tag::Bold, &[Number(row.dollars as Money)]);
+        out.element(Tag::Bold, &[Number(row.dollars)]);
         out.put(&[Words(if row.is_kept { " kept" } else { " paid" })]);
         out.end();
     } else {
