@@ -28,11 +28,15 @@ pub struct Panel<'a> {
 impl<'a> Panel<'a> {
     /// Returns the name of the player of a seat; no letters for a seat that nobody has.
     pub(crate) fn name(&self, seat: Seat) -> &'a [u8] {
-        let names = self.players.names;
-        match names.get(seat.index()) {
-            Some(name) => name,
-            None => &[],
-        }
+        name_in(&self.players, seat.index())
+    }
+}
+
+/// Returns the name of the player of a seat; no letters for a seat that nobody has.
+fn name_in<'a>(players: &Players<'a>, seat: usize) -> &'a [u8] {
+    match players.names.get(seat) {
+        Some(name) => name,
+        None => &[],
     }
 }
 
