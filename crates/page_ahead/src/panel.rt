@@ -108,18 +108,18 @@ fn put_awaited(out: &mut Writer, panel: &Panel) {
     }
     out.begin(Tag::Span);
     out.within();
-    let mut before = "owed by ";
+    let mut is_first = true;
     for number in 0..panel.players.seats {
         if panel.owe.get(number) == Some(&true) {
-            put_owing(out, before, panel.name(Seat::at(number)));
-            before = ", ";
+            put_owing(out, is_first, panel.name(Seat::at(number)));
+            is_first = false;
         }
     }
     out.end();
 }
 
-/// Adds a player who owes a sheet, behind these words.
-fn put_owing(out: &mut Writer, before: &'static str, name: &[u8]) {
-    out.put(&[Words(before)]);
+/// Adds a player who owes a sheet.
+fn put_owing(out: &mut Writer, is_first: bool, name: &[u8]) {
+    out.put(&[Words(if is_first { "owed by " } else { ", " })]);
     out.element(Tag::Bold, &[Name(name)]);
 }
