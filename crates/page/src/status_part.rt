@@ -70,8 +70,8 @@ pub fn put_links(out: &mut Writer, links: &[(&'static str, &'static str)]) {
     out.end();
 }
 
-/// Adds a summary of the game beside what is told of the next round, with the file's number of lines
-/// and its checksum.
+/// Adds a summary of the game beside what is told of the next round, with the file's number of
+/// lines and its checksum.
 pub(crate) fn put_status(out: &mut Writer, scene: &Scene, source: Source) {
     let history = scene.history;
     let phase = history.phase();
