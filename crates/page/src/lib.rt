@@ -5,7 +5,8 @@
 //! `page` makes it from the bytes of an order file, and `tile_sheet` makes the page of all tiles. A
 //! page is well-formed: `markup` defines that. The only text of a sheet in it is that in the
 //! bulletin, which is escaped. The panel above the map is from `page_ahead`, the map from
-//! `page_map`, the routes are from `page_routes`, and the charts from `page_charts`. The pages of `games/page/` test the layout.
+//! `page_map`, the routes are from `page_routes`, and the charts from `page_charts`. The pages of
+//! `games/page/` test the layout.
 //!
 //! The definitions, in `specs/`: `Checksum` (of the bytes of a file), `Due` (the umpire's words on
 //! when sheets are due), `Revenue` (what a company earned in a round).
