@@ -1,0 +1,1 @@
+-- The proofs need no lemmas of their own.
