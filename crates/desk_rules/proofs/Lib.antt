@@ -1,1 +1,0 @@
--- The proofs need no lemmas of their own.
