@@ -19,9 +19,9 @@
 //! assert!(rt; text.as_slice().starts_with(b"<!DOCTYPE html>\n"));
 //! ```
 //!
-//! Reading order: `worth_history` (the game round by round), `checksum`, `due`, `style`, `bulletin_part`,
-//! `phases_part`, `result_part`, `players_part`, `companies_part`, `revenue_part`, `status_part`,
-//! `whole_page` (`page`), `all_tiles` (`tile_sheet`).
+//! Reading order: `worth_history` (the game round by round), `checksum`, `due`, `style`,
+//! `bulletin_part`, `phases_part`, `result_part`, `players_part`, `companies_part`, `revenue_part`,
+//! `status_part`, `whole_page` (`page`), `all_tiles` (`tile_sheet`).
 #![tactic(auto)]
 
 mod all_tiles;
