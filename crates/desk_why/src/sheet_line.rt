@@ -46,8 +46,8 @@ impl SheetLine<'_> {
         self.number
     }
 
-    /// Returns the order of play that the line has, whatever its condition; `None` if it has another
-    /// one. The error is the line's own fault.
+    /// Returns the order of play that the line has, whatever its condition; `None` if it has
+    /// another one. The error is the line's own fault.
     pub fn play_order(&self) -> Result<Option<PlayOrder>, Fault>
         ensures { result ≡ play_order_of (placed self.now).line.reading }
     {
