@@ -86,11 +86,8 @@ fn meant_by(
     its: OrderLine,
     text: &[u8],
 ) -> Result<Option<Meant>, AllocError> {
-    match (its.order, its.fault) {
-        (Some(PlayOrder::Par { company, price }), None) if par_square(price).is_none() => {
-            Ok(Some(Meant::Starts(company)))
-        }
-        (_, Some(fault)) if text.len() <= MEANT_MOST && is_like_these(text) => {
+    match its.fault {
+        Some(fault) if text.len() <= MEANT_MOST && is_like_these(text) => {
             let faulty = Faulty {
                 version,
                 line: text,
@@ -100,7 +97,19 @@ fn meant_by(
             };
             meant_by_fault(alloc, faulty)
         }
-        _ => Ok(None),
+        Some(_) => Ok(None),
+        None => Ok(its.order.and_then(started_without_par)),
+    }
+}
+
+/// Returns that a company was to be started, if the order is a PAR without a par value.
+fn started_without_par(order: PlayOrder) -> Option<Meant> {
+    match order {
+        PlayOrder::Par { company, price } => match par_square(price) {
+            Some(_) => None,
+            None => Some(Meant::Starts(company)),
+        },
+        _ => None,
     }
 }
 
