@@ -107,7 +107,7 @@ def _add_players(one: argparse.ArgumentParser, whom: str, needs_umpire: bool) ->
 def _add_new(word: _Word) -> None:
     example = "our-game --umpire umpire@example.org ANN=ann@example.org BOB=bob@example.org CYD=cyd@example.org"
     one = word("new", "Makes a game's folder, and writes the first letters", example, GAME)
-    _add_players(one, "a player, in the order of the seats; a name again for another address; "
+    _add_players(one, "a player, in the order of play; a name again for another address; "
                       "the name alone of a player of the club", False)
     one.add_argument("--game-version", type=int, choices=(1, 2), default=2,
                      help="the version of the order file: 2, with conditions, unless 1 is named")

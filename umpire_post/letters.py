@@ -13,6 +13,9 @@ from umpire_post.programs import Report
 from umpire_post.words import listed, shown
 
 COLUMNS = 78
+LABELS = ("whatever others do:", "if nobody orders anything before it:")  # of the rules that a line breaks, in a finding
+OF_LABELS = ("A line that is refused whatever others do is refused in any case: correct it. One that is refused if nobody orders anything "
+             "before it may be obeyed once others have bought, sold or built.")
 # (a line of a bulletin has up to 80 columns, and is to be left as it is; a host may take no other bytes
 # than those of ASCII)
 FORM = policy.default.clone(max_line_length=100, cte_type="7bit")
@@ -152,7 +155,10 @@ def findings_text(findings: Sequence[str]) -> str:
     """Says what the desk found in a sheet."""
     if not findings:
         return "The desk finds nothing to correct in it, as things stand."
-    return "The desk finds:\n\n" + "\n".join(wrapped(it) for it in findings)
+    text = "The desk finds:\n\n" + "\n".join(wrapped(it) for it in findings)
+    if any(label in it for it in findings for label in LABELS):
+        text += "\n\n" + wrapped(OF_LABELS, "")
+    return text
 
 
 def wrapped(text: str, indent: str = "    ") -> str:

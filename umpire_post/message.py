@@ -69,7 +69,7 @@ def _contents(raw: Raw, heads: Heads) -> Contents:
 
 
 def contents_of(content: bytes) -> Contents:
-    """Reads what is below the heads of a message. It fails only for want of memory."""
+    """Reads what is below the heads of a message. It fails only if memory runs out."""
     try:
         heads = read_heads(content)
         names = {it.lower() for it in WORD.findall(f"{heads.name} {heads.sender.partition('@')[0]}")}

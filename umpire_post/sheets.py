@@ -2,7 +2,7 @@
 
 A line whose first word is SHEET begins a sheet, and the next such line or the end of the text ends it. A
 greeting, a closing or an attribution below its last order ends it, too. What else is below a SHEET line
-goes into the sheet as it is: whether it is an order is ruled by the umpire.
+goes into the sheet as it is: the umpire decides whether it is an order.
 """
 
 import hmac

@@ -216,8 +216,8 @@ moves_must_fail() {
 # told_must_fail: what is deliberately broken. In the game the order to sell is refused with S4.
 told_must_fail() {
   local game=games/desk/check-a-sale-into-a-full-pool.orders
-  sees 'a refusal that is not told before its round' 1 try_told "$(desk_but '/ as things stand: S4: /d')" 1 "$game"
-  sees 'a refusal that is told and does not come' 2 try_told "$(desk_but 's/ as things stand: S4: / as things stand: S5: /')" 1 "$game"
+  sees 'a refusal that is not told before its round' 1 try_told "$(desk_but '/ if nobody orders anything before it: S4: /d')" 1 "$game"
+  sees 'a refusal that is told and does not come' 2 try_told "$(desk_but 's/ before it: S4: / before it: S5: /')" 1 "$game"
   sees 'codes that nobody is told' all try_told "$(stub 'exit 0')" 1 -a "$game"
 }
 

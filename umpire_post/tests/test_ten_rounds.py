@@ -123,9 +123,9 @@ class TenRounds(Clubs):
             self.look_at_slips(sent, self.arrive(first, 3 if sent.stem in WITH_ASIDE else 0), lines)
             mended = [it for it in mended if it not in first]
         for answer in self.arrive(mended).values():
-            # (what is right once another has ordered first is refused as things stand)
+            # (what is right once another has ordered first is refused if nobody does)
             for found in re.findall(r"^ {4}line [\s\S]*?(?=^ {4}line|^$)", answer, re.M):
-                self.assertIn("| as things stand: ", flat(found))
+                self.assertIn("| if nobody orders anything before it: ", flat(found))
         self.play_other()
         self.on("ten", "round")
         if sheets.stem == UNDONE_AFTER:

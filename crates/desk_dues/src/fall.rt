@@ -30,7 +30,8 @@ const FALLS: [Fall; 3] = [
     },
 ];
 
-/// Returns the next time that trains of companies rust; `None` if no company has a train that rusts.
+/// Returns the next time that trains of companies rust; `None` if no company has a train that
+/// rusts.
 #[tactic(auto, unfolding(crate::specs::Fall::next_fall_of))]
 pub fn next_fall(history: &History) -> Option<Fall>
     ensures { result ≡ next_fall_of history.now.events }

@@ -3,10 +3,10 @@
 //!
 //! Everything is as things stand in a game: nobody buys, sells or discards anything before.
 //!
-//! Reading order: `coming_kind` (what the first train of the next kind brings), `fall` (the next kind
-//! that takes trains from companies), `then` (the train that must be bought then), `raised` (what a
-//! president can raise), `danger` (the companies that would be left without a train), `words` (the
-//! same as sentences), `laws`.
+//! Reading order: `coming_kind` (what the first train of the next kind brings), `fall` (the next
+//! kind that takes trains from companies), `then` (the train that must be bought then), `raised`
+//! (what a president can raise), `danger` (the companies that would be left without a train),
+//! `words` (the same as sentences), `laws`.
 #![tactic(auto)]
 
 mod coming_kind;

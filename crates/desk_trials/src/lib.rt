@@ -14,9 +14,11 @@
 //! `numbered` (the lines of a sheet), `refusals` (the lines that a trial refuses), `forced` (trains
 //! that companies must buy), `remedy` (how to pay for them), `outcome` (what the last round
 //! refused), `consent` and `taken` (what other players have to do with it), `told` (the findings of
-//! a trial), `trials` (`try_sheets`).
+//! a trial), `sheet_orders`, `reasons`, `below` and `told_alone` (those of a sheet alone), `trials`
+//! (`try_sheets`).
 #![tactic(auto)]
 
+mod below;
 mod check_changed;
 mod check_found;
 mod check_lines;
@@ -26,11 +28,14 @@ mod consent;
 mod forced;
 mod numbered;
 mod outcome;
+mod reasons;
 mod refusals;
 mod remedy;
 mod sheet_like;
+mod sheet_orders;
 mod taken;
 mod told;
+mod told_alone;
 mod trials;
 
 pub use check_changed::first_changed;

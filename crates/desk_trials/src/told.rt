@@ -1,15 +1,15 @@
 //! Adds the findings of a trial: the lines that it did not obey, each with the rule, its figures
 //! and its cause, and what happens when companies must buy trains.
 
-use crate::check_found::{CodedLine, Fallback, Found, Matter};
+use crate::check_found::{Found, Matter};
 use crate::check_lines::FileLine;
-use crate::check_mail::is_mail;
 use crate::check_sheets::Head;
 use crate::consent::push_consent;
 use crate::forced::{Forced, push_forced};
 use crate::numbered::{head_of, line_numbered};
 use crate::refusals::RefusedLine;
 use crate::taken::push_taker;
+use crate::told_alone::is_told;
 use desk_base::Piece::Words;
 use desk_base::{push, view_behind};
 use desk_why::{Ruled, SheetLine, find_line, is_fallback, lines_of, push_rule};
@@ -54,7 +54,7 @@ pub(crate) struct TriedSheet<'g, 'h, 'n, 'a> {
 
 /// Adds the lines of a sheet that a trial did not obey, unless the line has a finding with the same
 /// code already. Lines that are not needed because an earlier line for the same purpose is obeyed
-/// are no findings: they are listed apart if the sheet is tried alone, and otherwise left out.
+/// are left out.
 pub(crate) fn tell_refused<'a>(
     alloc: Global,
     played: TriedSheet<'_, '_, '_, 'a>,
@@ -75,18 +75,13 @@ pub(crate) fn tell_refused<'a>(
         let view = view_behind(&mut walk, row.place, game.history().seats());
         if !is_unneeded(lines.as_slice(), &view, played.head.sent.seat, row, rows) {
             tell_row(alloc, played, lines.as_slice(), &view, row, &line, found)?;
-        } else if let Trial::Alone = played.trial {
-            found.fallbacks.push(Fallback {
-                sent: played.head.sent,
-                line: line.number,
-            })?;
         }
     }
     Ok(())
 }
 
 /// Adds a finding of a line of a sheet: the part of the trials' texts from a place on.
-fn add_told<'a>(
+pub(crate) fn add_told<'a>(
     played: TriedSheet<'_, '_, '_, 'a>,
     line: &FileLine<'a>,
     from: usize,
@@ -110,7 +105,7 @@ fn add_told<'a>(
 /// same purpose was obeyed, given all that were not obeyed. Below a line with a fault in the same
 /// turn or the orders for the same company that is not known: that line may have been meant to
 /// begin others. The game is given as it was before the line.
-fn is_unneeded(
+pub(crate) fn is_unneeded(
     lines: &[SheetLine],
     view: &GameView,
     seat: Seat,
@@ -139,20 +134,6 @@ fn is_fault_above(lines: &[SheetLine], seat: Seat, row: &RefusedLine, number: u3
                 && line.number() > row.number
                 && line.number() <= number
         })
-}
-
-/// Returns whether a line has a finding already with the code for which it was refused, or one that
-/// says it looks like mail, so that a fault is expected.
-fn is_told(coded: &[CodedLine], line: &FileLine, verdict: Verdict) -> bool {
-    let code = match verdict {
-        Verdict::Obeyed => return true,
-        Verdict::Faulty(_) if is_mail(line.text) => return true,
-        Verdict::Faulty(fault) => fault.code(),
-        Verdict::Refused(rule) => rule.code(),
-    };
-    coded
-        .iter()
-        .any(|told| told.number == line.number && told.code == code)
 }
 
 /// Adds a line that a trial did not obey. The game is given as it was before the line.

@@ -13,6 +13,7 @@ use crate::outcome::{Outcome, SeatLine, push_lines, rows_beyond};
 use crate::refusals::{RefusedLine, refused_of};
 use crate::remedy::with_remedies;
 use crate::told::{Trial, TriedSheet, tell_forced, tell_refused};
+use crate::told_alone::tell_alone_refused;
 use foresight::TrialFile;
 use rounds::{End, Game, play};
 use sheets::{FILE_MOST, FileFault, SHEETS_MOST, SheetKey, Sheets, collect};
@@ -285,7 +286,10 @@ fn tell_alone<'a>(
         head,
         numbered: numbered.as_slice(),
     };
-    tell_refused(alloc, sheet, rows.as_slice(), found)?;
+    match trial {
+        Trial::Alone => tell_alone_refused(alloc, sheet, rows.as_slice(), found)?,
+        _ => tell_refused(alloc, sheet, rows.as_slice(), found)?,
+    }
     let forced = forced_of(alloc, &game, head.sent)?;
     let forced = match played {
         Some(outcome) => outcome.also_forced(alloc, forced.as_slice())?,

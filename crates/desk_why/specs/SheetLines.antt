@@ -1,7 +1,7 @@
 -- Which lines of the sheets for a round are told of: those of each seat's sheet in their order, first the lines before the
 -- first head, and then each head with the lines that it opens.
 use Rattle.std.specs.Prelude.{◌≡◌, ℕ, Bool, true, false, List, [], ◌∷◌, ◌++◌, length, map, take, Option, Some, None}
-use Rattle.std.specs.Prelude.{Result, Ok}
+use Rattle.std.specs.Prelude.{Result, Ok, Err}
 use Rattle.std.specs.List.{flat_map, range_with_len}
 use Rattle.desk_why.specs.Why.{lines_kept}
 use Rattle.desk_why.specs.declared.sheet_line.LinePlace.{LinePlace}
@@ -11,6 +11,7 @@ use Rattle.order_grammar.specs.Version.{reading_in}
 use Rattle.order_grammar.specs.declared.fault.Fault.{Fault}
 use Rattle.order_grammar.specs.declared.order.Order.{Order}
 use Rattle.order_grammar.specs.declared.order.Order.TheVariants as order
+use Rattle.order_grammar.specs.declared.play.PlayOrder.{PlayOrder}
 use Rattle.sheets.specs.File.{players_of}
 use Rattle.sheets.specs.Part.{Numbered, Part, SheetParts, numbered, parts_for}
 use Rattle.tables.specs.Seat.{seat_at}
@@ -61,3 +62,13 @@ lines_of_seat file round seat = take lines_kept (lines_left seat line_place.Stan
 abbrev pub lines_of : List ℕ → Round → List PlacedLine
 lines_of file round =
     flat_map (λ seat. lines_of_seat file round (seat_at seat)) (range_with_len 0 (length (players_of file)))
+
+-- the order of play that an order is, if it is one
+abbrev pub order_of_play : Order → Option PlayOrder
+order_of_play (order.Play its) = Some its
+order_of_play other = None
+
+-- the order of play that a line reads as, if it is one; or its fault
+abbrev pub play_order_of : Result Order Fault → Result (Option PlayOrder) Fault
+play_order_of (Ok its) = Ok (order_of_play its)
+play_order_of (Err fault) = Err fault

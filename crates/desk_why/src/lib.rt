@@ -6,7 +6,7 @@
 //! `why` (the rule that a line broke), `case` (what is said of it), `figures` (the figures that it
 //! compared), `done` (the last step of a company's turn), `fallback` (lines that are not needed),
 //! `cause` (which of several causes it was), `refusal_detail` (what is added after the rule),
-//! `track` and `ways` (where track breaks or leads).
+//! `legal` (what may be laid instead), `track` and `ways` (where track breaks or leads).
 #![tactic(auto)]
 
 mod case;
@@ -14,6 +14,7 @@ mod cause;
 mod done;
 mod fallback;
 mod figures;
+mod legal;
 mod refusal_detail;
 mod refused;
 mod sheet_line;
@@ -26,4 +27,4 @@ pub use fallback::is_fallback;
 pub use refusal_detail::{Ruled, push_place_meant};
 pub use refused::{refused_in, within_then};
 pub use sheet_line::{LinePlace, SheetLine, find_line, lines_of};
-pub use why::{FAULTY_COLUMNS, push_rule, push_why};
+pub use why::{FAULTY_COLUMNS, push_broken, push_rule, push_why};

@@ -7,6 +7,7 @@ ghost use Rattle.map_tables.specs.Hex.{same_hex};
 
 use crate::cause::{cause_of, cause_out_of_place};
 use crate::figures::{Figures, cost_in_turn, figures_of, push_figures};
+use crate::legal::push_of_lay;
 use crate::sheet_line::{LinePlace, SheetLine};
 use crate::track::break_of;
 use crate::ways::{push_ways_to_stop, push_ways_to_tile};
@@ -48,7 +49,7 @@ pub struct Ruled<'a> {
 
 impl Ruled<'_> {
     /// Returns the company whose orders the line is among, if that is known.
-    fn company(&self) -> Option<Company>
+    pub(crate) fn company(&self) -> Option<Company>
         ensures { result ≡ option_and_then company_at self.now.place }
     {
         self.place?.company()
@@ -280,8 +281,8 @@ fn push_by_view(
                 },
             ),
         ) if *price > 0 => push_offer_lacking(out, ruled, *kind, *seller, *price),
-        (Refusal::Lay(LayRule::WrongTile), Order::Play(PlayOrder::Lay(lay))) => {
-            push_colour(out, ruled.view, *lay)
+        (Refusal::Lay(rule), Order::Play(PlayOrder::Lay(lay))) => {
+            push_of_lay(alloc, out, ruled, rule, *lay)
         }
         _ => match objection_by_view(ruled.view, ruled.seat, order) {
             Some((broken, reason)) if broken == rule => push_objection(out, ruled.sheets, reason),
@@ -345,7 +346,7 @@ fn push_full(
 }
 
 /// Adds the colour of a hex at a moment of the game, and that of a tile that was to be laid there.
-fn push_colour(out: &mut Vec<u8>, view: &GameView, lay: Lay) -> Result<(), AllocError> {
+pub(crate) fn push_colour(out: &mut Vec<u8>, view: &GameView, lay: Lay) -> Result<(), AllocError> {
     let code = lay.hex.text();
     let colour = Words(colour_name(colour_after(view.events(), lay.hex)));
     let number = Number(Money::from(lay.tile.number()));

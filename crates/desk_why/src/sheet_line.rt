@@ -1,11 +1,11 @@
 //! The lines of the sheets for a round, by number: the text of each, and where it is.
 ghost use Rattle.std.specs.Prelude.{◌≡◌, ◌==◌, ◌++◌, IfOk, Ok, OnOk, find, map};
 ghost use Rattle.desk_why.specs.SheetLines.{TakesNext, lines_of, lines_of_seat, place_behind, placed};
-ghost use Rattle.desk_why.specs.SheetLines.{placed_at};
+ghost use Rattle.desk_why.specs.SheetLines.{order_of_play, placed_at, play_order_of};
 ghost use Rattle.desk_why.specs.Why.{company_at, is_line_of, line_at};
 ghost use Rattle.sheets.specs.Part.{line_unread};
 
-use order_grammar::{Order, Version};
+use order_grammar::{Fault, Order, PlayOrder, Version};
 use sheets::{PartsLeft, Sheets, UnreadLine};
 use std::alloc::{AllocError, Global};
 use tables::{Company, Round, Seat};
@@ -44,6 +44,32 @@ impl SheetLine<'_> {
         ensures { result ≡ self.now.number }
     {
         self.number
+    }
+
+    /// Returns the order of play that the line has, whatever its condition; `None` if it has
+    /// another one. The error is the line's own fault.
+    pub fn play_order(&self) -> Result<Option<PlayOrder>, Fault>
+        ensures { result ≡ play_order_of (placed self.now).line.reading }
+    {
+        let line = UnreadLine {
+            version: self.version,
+            number: self.number,
+            text: self.text,
+        };
+        match line.read().order() {
+            Ok(order) => Ok(order_of_play(order)),
+            Err(fault) => Err(fault),
+        }
+    }
+}
+
+/// Returns the order of play that an order is, if it is one.
+fn order_of_play(order: &Order) -> Option<PlayOrder>
+    ensures { result ≡ order_of_play order.now }
+{
+    match order {
+        Order::Play(order) => Some(*order),
+        _ => None,
     }
 }
 

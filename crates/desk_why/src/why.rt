@@ -9,7 +9,7 @@ use crate::sheet_line::{SheetLine, find_line};
 use desk_base::Piece::{Cut, Words};
 use desk_base::{Reason, fill};
 use hints::{Faulty, push_hint, sentence_of};
-use history::{PackedRuling, Verdict};
+use history::{PackedRuling, Ruling, Verdict};
 use order_grammar::Fault;
 use std::alloc::{AllocError, Global};
 
@@ -53,14 +53,22 @@ pub fn push_rule<'a>(
     if let (Verdict::Faulty(fault), Some(line)) = (ruling.verdict(), line) {
         return push_fault(out, ruled, &line, fault);
     }
-    let place = line.map(|line| line.place);
+    push_broken(alloc, out, ruled, number, reason, &ruling.ruling())
+}
+
+/// Adds a reason why a line of a sheet is refused, with its code and the figures that its rule
+/// compares for this ruling. Fails only if allocation fails.
+pub fn push_broken<'a>(
+    alloc: Global,
+    out: &mut Vec<u8>,
+    ruled: Ruled<'a>,
+    number: u32,
+    reason: Reason,
+    ruling: &'a Ruling,
+) -> Result<(), AllocError> {
+    let place = find_line(ruled.lines, ruled.seat, number).map(|line| line.place);
     let mut detail = Vec::new(alloc);
-    push_refusal_detail(
-        alloc,
-        &mut detail,
-        Ruled { place, ..ruled },
-        &ruling.ruling(),
-    )?;
+    push_refusal_detail(alloc, &mut detail, Ruled { place, ..ruled }, ruling)?;
     push_case(out, reason, detail.as_slice())
 }
 

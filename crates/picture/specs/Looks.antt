@@ -1,6 +1,6 @@
 -- What shows in a hex beside its track: the ground, what its stops are, how many, how many slots
 -- each has, and what each is worth. That is what the tile on the hex has, or its print.
-use Rattle.std.specs.Prelude.{ℕ, Option, None, Some, ltb, Bool, if◌then◌else◌}
+use Rattle.std.specs.Prelude.{ℕ, Option, None, Some, ltb, if◌then◌else◌}
 use Rattle.map_tables.specs.declared.hex.Hex.{Hex}
 use Rattle.map_tables.specs.declared.lay.Lay.{Lay}
 use Rattle.map_tables.specs.declared.print.HexKind.{HexKind}
@@ -9,7 +9,7 @@ use Rattle.map_tables.specs.declared.tiles.Colour.{Colour}
 use Rattle.map_tables.specs.declared.tiles.Colour.TheVariants as colour
 use Rattle.map_tables.specs.declared.tiles.TileKind.{TileKind}
 use Rattle.map_tables.specs.declared.tiles.TileKind.TheVariants.{Plain, Town, TwoTowns, City, CityB, CitiesNY, CitiesOO}
-use Rattle.map_tables.specs.Print.{Print, print_of}
+use Rattle.map_tables.specs.Print.{print_of}
 use Rattle.map_tables.specs.Tile.{entry_of, stops_of_kind}
 use Rattle.picture.specs.declared.look.Shade.{Shade}
 use Rattle.picture.specs.declared.look.Shade.TheVariants as shade
