@@ -88,7 +88,7 @@ fn bulletin_of_game(alloc: Global, game: &Game, due: &str) -> Result<Vec<u8>, De
 /// Fails with `Round` if no round has been played.
 #[tactic(auto, using(desk_round::proofs::RoundParts::last_has_turns))]
 pub(crate) fn bulletin_of(alloc: Global, stood: &Stood, due: &str) -> Result<Vec<u8>, DeskFault>
-    ensures { IfErr result (HasNoRound stood.history.now.events) }
+    ensures { IfErr result (HasNoRound stood.now.history.now.events) }
 {
     let Some(round) = stood.history.now().round() else {
         return Err(DeskFault::Round);
