@@ -44,7 +44,7 @@ docs_must_fail() {
   printf '\nnobody_cites : (n : ℕ) → n ≡ n\nnobody_cites n = refl\n' >> "$wrong/crates/market/proofs/Chart.antt"
   sed -i '2i use Rattle.tables.specs.Train.{kinds}' "$wrong/crates/market/proofs/Chart.antt"
   sees 'a lemma that nothing cites, and an import that nothing uses' 2 take_over tools/lemmas --crates "$wrong/crates"
-  sees 'a lemma more that states again what another states' 6 take_over tools/lemmas --again 5
+  sees 'a lemma more that states again what another states' 7 take_over tools/lemmas --again 6
   printf '\nAnother line.\n' >> "$wrong/docs/rulebook/13-sales.md"
   sees 'a chapter that is not fresh' 1 take_over "$wrong/tools/claim" --check
   cp docs/rulebook/13-sales.md "$wrong/docs/rulebook"

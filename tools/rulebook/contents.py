@@ -160,7 +160,6 @@ SENTENCES = {
     'privates: is_the': 'there is a private, and it is this one',
     'purchases: is_kind': 'there is a kind, and it is this one',
     'report: is_the_round': 'there is a round, and it is this one',
-    'desk_round: is_round': 'there is a round, and it is this one',
     'legal_runs: is_hex': 'a hex is the one that is looked for',
     'rounds: with_round': 'a list of rounds, behind one more if there is one',
     'totals: now_said': 'what holds now: what the last event that speaks of it says, which may be that nothing does',
