@@ -25,7 +25,8 @@ NO_SHEET = "No line of it begins with SHEET, so it has no sheet, and changes non
 LONGEST_MENDED = 200  # characters of a SHEET line with a fault
 WORD = re.compile(r"[A-Za-z][A-Za-z0-9]*")
 SLIP = re.compile(r"\b(?P<kind>[PS]R|OR)[^\w\n]{0,3}(?P<number>[1-9][0-9]{0,3})(?:[^\w\n]{1,3}(?P<of_set>[1-3]))?(?![0-9])", re.I | re.A)
-CITED = re.compile(r"\b([Ll]ine|Lines) (\d+)(?: to (\d+))?\b")  # lines of the file
+NUMBER = re.compile(r"\d+")
+CITED = re.compile(r"\b([Ll]ines?) (\d+(?:(?: to |, )\d+)*)\b")  # lines of the file
 
 
 @dataclass(frozen=True)
@@ -287,8 +288,9 @@ def findings_in(sheet: Sheet, found: Found, orders: bytes, report: Report, progr
     numbers = {first + at: number for at, (number, _) in enumerate(found.numbered())}
 
     def named(cited: re.Match[str]) -> str:
-        own = [numbers.get(int(it)) for it in cited.groups()[1:] if it]
-        return f"{cited[1]} {' to '.join(map(str, own))}" if all(own) else cited[0]
+        own = [numbers.get(int(it)) for it in NUMBER.findall(cited[2])]
+        each = iter(own)
+        return f"{cited[1]} " + NUMBER.sub(lambda _: str(next(each)), cited[2]) if all(own) else cited[0]
 
     def shown(line: int, said: str) -> str:
         number = numbers.get(line)

@@ -27,6 +27,7 @@ SENDMAIL = "#!/bin/sh\ncat > /dev/null\n"
 # no-break space, heads of mail, and a quotation; and of a sheet that came late, which it sets aside.
 PUT_RIGHT = {"01-PR1": {3, 4, 5, 6, 7, 16, 18}, "04-SR2": {72, 73, 79, 80}, "06-SR3": {108}}
 # The curly quotation marks are plain ones now.
+CITED = re.compile(r"(?<=then lines )\d+(?:, \d+)*")  # lines of the file that fail below another
 TOLD_OTHERWISE = {("01-PR1", 19): 'G4: the words after the first do not fit any of its forms'}
 
 
@@ -39,6 +40,11 @@ def chunks(path: Path) -> Iterator[tuple[str, list[str], int]]:
     for start, begun, end in zip(starts, begins, [*starts[1:], len(lines)]):
         name = lines[begun].split()[1]
         yield MEANT.get(name, name), lines[start:end], start
+
+
+def own_numbers(cited: str, head: int) -> str:
+    """Returns a list of lines of a file with the numbers that they have in the sheet below this line."""
+    return re.sub(r"\d+", lambda it: str(int(it[0]) - head), cited)
 
 
 def flat(text: str) -> str:
@@ -101,11 +107,14 @@ class TenRounds(Clubs):
         own = sent.with_suffix(".told").read_text().partition("FOR THE UMPIRE ALONE")[0]
         told = [it.split(" | ") for it in own.splitlines() if not it.startswith("OWED")]
         whose = {before + 1 + start + at: name for name, lines, start in chunks(sent) for at in range(len(lines))}
+        heads = {name: before + 1 + start + next(at for at, line in enumerate(lines) if line.startswith("SHEET "))
+                 for name, lines, start in chunks(sent)}
         for number, *_, text, said in told:
             if int(number) in PUT_RIGHT.get(sent.stem, ()):
                 continue
             said = TOLD_OTHERWISE.get((sent.stem, int(number)), said)
             name = whose[int(number)]
+            said = CITED.sub(lambda its: own_numbers(its[0], heads[name]), said)
             self.assertIn(flat(said), flat(answers[ADDRESSES[name]]), f"{sent.stem} line {number}")
             others = [flat(it) for address, it in answers.items() if address != ADDRESSES[name]]
             self.assertFalse([it for it in others if flat(f"{text} | {said}") in it], f"{sent.stem} line {number}")
