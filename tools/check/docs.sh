@@ -24,6 +24,9 @@ wrong_pages() {
   sed -i 's/(#by-post)/(#by-mail)/' "$1/docs/players/if-you-know-1830.md"
   sed -i 's/^SOLD DH BOB 105$/SOLD DH BOB 106/' "$1/docs/players/playing.md"
   yes word | head -n 16000 >> "$1/docs/players/index.md"
+  rm "$1/games" && mkdir "$1/games" && ln -s "$PWD"/games/* "$1/games/"
+  rm "$1/games/codes" && cp -r games/codes "$1/games"
+  sed -i '1s/$/ A seat./' "$1/games/codes/T4-no-consent.orders"
   take_over tools/check/pages "$1"
 }
 
@@ -72,7 +75,8 @@ docs_must_fail() {
   mkdir -p "$wrong-crates/sheets/src" "$wrong-crates/test_umpire/src"
   sed 's/collect(rt/collects(rt/' crates/sheets/src/lib.rt > "$wrong-crates/sheets/src/lib.rt"
   cp crates/test_umpire/src/examples.rt "$wrong-crates/test_umpire/src/"
-  sees 'a page with an unwanted word, no contents, a link to nowhere, another report, and too many words' 5 wrong_pages "$wrong"
+  sees 'pages with an unwanted word, no contents, a link to nowhere, another report, too many words, and a comment with one' 6 \
+    wrong_pages "$wrong"
   sed 's/ keep the earnings / keep it /' docs/players/formats.md > "$wrong/docs/players/formats.md"
   sees 'a card that is not made from the tables' 1 take_over "$wrong/tools/card" --check
   sees 'an example that no test has' 1 take_over tools/check/examples "$wrong-crates"

@@ -33,6 +33,15 @@ play_alike() {
   judge "$name" "$(($(wc -c < "$scratch/page") == 0))" 0 "games/page/$alike.html" none
 }
 
+# play_ahead FILE: the panel above the map is this. NAME.words has the game, and the round if it is not the last.
+play_ahead() {
+  local name=${1%.ahead} orders words
+  read -r orders words < "$name.words"
+  # shellcheck disable=SC2086
+  "$desk" page $words < "games/$orders.orders" 2> "$scratch/err" | sed -n '/<section id="ahead"/,/<\/section>/{s,</section>.*,</section>,;p}' > "$scratch/out"
+  judge "$name" "${PIPESTATUS[0]}" 0 "$1" none
+}
+
 # told_of GAME FOLDER: what the desk tells of a game: its page, its state, and the runs of its last operating round.
 told_of() {
   local orders=games/$1.orders round word
@@ -145,6 +154,7 @@ check_page() {
   [ "${1:-}" != quick ] || games=("${read_games[@]:0:3}") lays_games=("${lays_games[@]:0:2}")
   side_by_side play_page games/page/*.html
   side_by_side play_alike games/page/*.as
+  side_by_side play_ahead games/page/*.ahead
   side_by_side read_game "${games[@]}"
   side_by_side play_lays games/page/*.lays
   side_by_side read_lays "${lays_games[@]}"
@@ -182,6 +192,8 @@ page_must_fail() {
   local program desk
   program=$(stub 'echo') desk=$program
   sees 'a desk that writes another page' all side_by_side play_page games/page/*.html
+  sees 'another page with a day where there is none' all side_by_side play_alike games/page/*.as
+  sees 'a page without the panel above the map' all side_by_side play_ahead games/page/*.ahead
   sees 'a page without what may be done' all side_by_side play_lays games/page/*.lays
   sees 'the same of another game' 1 read_lays first-dividend
   sees 'a sheet without tiles' 1 read_tiles
