@@ -54,7 +54,7 @@ within_none position (run ∷ runs) =
     ((λ same. absurd (omega (arith, same, two_at_least run.kind))), within_none position runs)
 
 module _ (position : Position) (company : Company) (lawful : IsLawful position) where
-  -- legal runs can be written out, and their places name their walks
+  -- legal runs can be written in full, and their places name their walks
   pub can_claim : (runs : List TrainRun) → AllByRecursion (RunsLegally position company) runs
       → AllByRecursion CanBeClaimed runs
   can_claim [] legal = tt

@@ -65,7 +65,7 @@ next_read kinds i d old new walk low read =
     (after_walk (reverse old)))) (sym read.walk_is)
     ∙ ap (λ (ms : List Mark). with_run kind (steps_of walk) (runs_of_marks (drop (i + 1) kinds) [] ms)) (sym read.after)
 
--- where the first of them runs, it can be written out, and so can the others
+-- where the first of them runs, it can be written in full, and so can the others
 pub can_next :
     (kinds : List Kind) (i : ℕ) (d : Kind) (old new : List Mark) (walk : Option (Vec WalkStep Global))
     (steps : Vec WalkStep Global) → i < length kinds →

@@ -1,6 +1,6 @@
 -- What is kept of the best runs that are found. Each call adds, last, a group for its round and
 -- company. The group is accepted at the call's position for its trains, whatever fills up its last
--- digit as it is printed. It claims what the call returns, which is under 50,000 dollars. If
+-- digit as it is printed. It claims what the call returns, which is less than 50,000 dollars. If
 -- allocation fails no group is added.
 use Rattle.std.specs.Prelude.{◌≡◌, ◌<◌, ℤ, pos, List, [], ◌∷◌, ◌++◌, Result, Ok, Err}
 use Rattle.certificate.specs.Filled.{IsAcceptedFilled}

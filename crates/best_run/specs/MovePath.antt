@@ -62,12 +62,12 @@ runs_of_marks [] walk marks = []
 runs_of_marks (kind ∷ kinds) walk marks =
     with_run kind (walk_of_marks walk marks) (runs_of_marks kinds [] (after_walk marks))
 
--- some runs, written out by their places
+-- some runs, in full by their places
 abbrev pub written : List TrainRun → List ClaimedRun
 written [] = []
 written (run ∷ runs) = record { kind = run.kind; run = places_of run.steps } ∷ written runs
 
--- a run that can be written out
+-- a run that can be written in full
 pub record CanBeClaimed (run : TrainRun) : Type 0 where
   pub least : 2 ≤ length (places_of run.steps)
   pub most : length (places_of run.steps) ≤ 280
@@ -76,11 +76,11 @@ pub record CanBeClaimed (run : TrainRun) : Type 0 where
 abbrev pub runs_in : List Kind → MovePath → List TrainRun
 runs_in kinds move_path = runs_of_marks kinds [] (marks_in move_path)
 
--- all runs that a path gives of some trains can be written out
+-- all runs that a path gives of some trains can be written in full
 abbrev pub CanBeRead : List Kind → MovePath → Type 0
 CanBeRead kinds move_path = AllByRecursion CanBeClaimed (runs_in kinds move_path)
 
--- the runs that a path gives of some trains are written out
+-- the runs that a path gives of some trains are written in full
 abbrev pub IsRead : List Kind → MovePath → List ClaimedRun → Type 0
 IsRead kinds move_path runs = runs ≡ written (runs_in kinds move_path)
 

@@ -1,6 +1,6 @@
 -- What the search finds for some trains, greatest first: the greatest revenue, with a path that
--- gives the runs of a legal set that earns it. All of these can be written out, and their places
--- name them. It is under 50,000 dollars.
+-- gives the runs of a legal set that earns it. All of these can be written in full, and their places
+-- name them. It is less than 50,000 dollars.
 use Rattle.std.specs.Prelude.{◌≡◌, ◌<◌, List}
 use Rattle.reach.specs.Position.{Position}
 use Rattle.tables.specs.declared.rolling_stock.Kind.{Kind}

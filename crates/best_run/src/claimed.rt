@@ -1,4 +1,4 @@
-//! The runs that a path gives, written out by their places.
+//! The runs that a path gives, in full by their places.
 ghost use Rattle.std.specs.Prelude.{◌≡◌, IfOk};
 ghost use Rattle.best_run.specs.MovePath.{CanBeRead, IsRead, IsWalkRead, turned_about, turned_step};
 

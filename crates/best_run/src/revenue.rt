@@ -116,8 +116,8 @@ pub(crate) fn greatest_revenue<N: Network>(
 }
 
 /// Returns the greatest revenue that any legal set of runs for these trains of a company earns on a
-/// network, in dollars, under 50,000. With it come the runs of a legal set that earns it, and marks
-/// that show that no set earns more, even after they are printed and read again. If no run is
+/// network, in dollars, less than 50,000. With it come the runs of a legal set that earns it, and
+/// marks that show that no set earns more, even after they are printed and read again. If no run is
 /// legal, the revenue is 0, by no run. Fails only if allocation fails.
 pub fn best<N: Network>(
     alloc: Global,

@@ -12,7 +12,7 @@ use Rattle.board.proofs.KeptHomes.{count_le}
 use Rattle.board_state.proofs.Tiles.{last_lies}
 use Rattle.map_tables.specs.Hex.{hexes, index_of, same_hex, site_of}
 use Rattle.map_tables.specs.RuleCodes.{code_of_lay_rule}
-use Rattle.map_tables.specs.Tile.{entry_of, tile_index_of, tiles, number_of_tile}
+use Rattle.map_tables.specs.Tile.{entry_of, tile_index_of, tiles, number_of_tile, printed}
 use Rattle.map_tables.specs.declared.hex.Hex.{Hex}
 use Rattle.map_tables.specs.declared.hex.Hex.TheVariants.{A9}
 use Rattle.map_tables.specs.declared.lay.Lay.{Lay}
@@ -23,7 +23,7 @@ use Rattle.tables.proofs.Rules.{not_broken}
 
 -- a tile is at its place
 at_place : (tile : TileNo) → get_or tiles (tile_index_of tile) T1 ≡ tile
-unfolding tiles tile_index_of number_of_tile
+unfolding tiles tile_index_of number_of_tile printed
 at_place T1 = refl
 at_place _ = refl
 

@@ -70,12 +70,11 @@ on_map_of lays tile = count_by (λ hex. is_tile tile (tile_on lays hex)) hexes
 unfoldable pub is_none_left : List Lay → TileNo → Bool
 is_none_left lays tile = nat_le (entry_of tile).count (on_map_of lays tile)
 
--- whether a colour has not come yet
+-- whether a colour isn't available yet
 unfoldable pub is_colour_closed : Kind → Colour → Bool
-is_colour_closed phase White = false
-is_colour_closed phase Yellow = false
 is_colour_closed phase Green = nat_lt (index_of_kind phase) (index_of_kind Three)
 is_colour_closed phase Brown = nat_lt (index_of_kind phase) (index_of_kind Five)
+is_colour_closed phase other = false
 
 -- the place of a colour in the order of colours
 abbrev pub place_of_colour : Colour → ℕ
@@ -99,8 +98,7 @@ loses_track lays lay = list_any (λ old. not (is_kept (laid_links_of lay) old)) 
 
 -- whether a hex is one of a private that a player owns
 unfoldable pub is_blocked : Asker → Hex → Bool
-is_blocked asker hex =
-    list_any (λ private. slice_index_or asker.player_privates (index_of_private private) false
+is_blocked asker hex = list_any (λ private. slice_index_or asker.player_privates (index_of_private private) false
     && list_any (λ one. same_hex one hex) (hexes_of_private private)) privates
 
 -- what a lay on a hex costs: its terrain, with the first tile
@@ -114,23 +112,20 @@ pub record IsConnected (position : Position) (company : Company) (lay : Lay) : T
 
 -- the rules that do not depend on what is reached
 abbrev pub map_rules : MapState → Asker → Lay → List (Rule LayRule)
-map_rules laid asker lay =
-    record { code = rule.StepUsed; broken = is_lay_used laid.lays asker lay.hex }
+map_rules laid asker lay = record { code = rule.StepUsed; broken = is_lay_used laid.lays asker lay.hex }
     ∷ record { code = rule.GreyOrRed; broken = not (is_open (print_of lay.hex).kind) }
     ∷ record { code = rule.NoneLeft; broken = is_none_left laid.lays lay.tile }
     ∷ record { code = rule.ColourClosed; broken = is_colour_closed laid.phase (entry_of lay.tile).colour }
     ∷ record { code = rule.WrongTile; broken = is_wrong_colour laid.lays lay || is_wrong_kind lay }
     ∷ record { code = rule.TrackLost; broken = loses_track laid.lays lay }
     ∷ record { code = rule.BadSide; broken = has_bad_side lay }
-    ∷ record { code = rule.Blocked; broken = is_blocked asker lay.hex }
-    ∷ []
+    ∷ record { code = rule.Blocked; broken = is_blocked asker lay.hex } ∷ []
 
 -- the rules that are looked at once it is known whether some piece of the tile is reached
 abbrev pub lay_reach_rules : MapState → Asker → Lay → Bool → List (Rule LayRule)
 lay_reach_rules laid asker lay reached =
     record { code = rule.NotReached; broken = not (needs_no_track laid.lays asker lay || reached) }
-    ∷ record { code = rule.CashTooSmall; broken = lt_z asker.cash (pos (lay_cost_of laid.lays lay.hex)) }
-    ∷ []
+    ∷ record { code = rule.CashTooSmall; broken = lt_z asker.cash (pos (lay_cost_of laid.lays lay.hex)) } ∷ []
 
 -- all rules of a lay
 abbrev pub lay_rules : MapState → Asker → Lay → Bool → List (Rule LayRule)

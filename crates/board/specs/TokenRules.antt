@@ -80,12 +80,10 @@ pub record IsReachedPlace (position : Position) (company : Company) (place : Pla
 
 -- the rules that do not depend on what is reached
 abbrev pub slot_rules : MapState → Asker → Place → List (Rule TokenRule)
-slot_rules laid asker place =
-    record { code = rule.StepUsed; broken = is_token_used asker }
+slot_rules laid asker place = record { code = rule.StepUsed; broken = is_token_used asker }
     ∷ record { code = rule.NoTokenLeft; broken = has_none_left laid.tokens asker.company }
     ∷ record { code = rule.NoFreeSlot; broken = is_no_free_slot laid place }
-    ∷ record { code = rule.InHexAlready; broken = has_token_in laid.tokens place.hex asker.company }
-    ∷ []
+    ∷ record { code = rule.InHexAlready; broken = has_token_in laid.tokens place.hex asker.company } ∷ []
 
 -- the rules that are looked at once it is known whether the stop is reached
 abbrev pub token_reach_rules : MapState → Asker → Place → Bool → List (Rule TokenRule)

@@ -10,8 +10,7 @@ use Rattle.map_tables.specs.declared.hex.Hex.TheVariants.{A9, I1}
 use Rattle.map_tables.specs.declared.place.StopNumber.TheVariants.{Second}
 use Rattle.map_tables.specs.declared.track.TrackEnd.TheVariants.{Stop as AtStop}
 use Rattle.map_tables.specs.declared.track.Link.{Link}
-use Rattle.reach.specs.Lawful.{PartsHaveOneStop}
-use Rattle.reach.specs.Position.{InHex, IsAmong}
+use Rattle.reach.specs.Position.{InHex, IsAmong, links_of}
 
 -- the two parts
 gulf_has_one : (link : Link) → IsAmong link (printed_links_of I1) → link.b ≡ AtStop Second → joined_hex I1 ≡ I1
@@ -32,6 +31,7 @@ one_stop laid I1 link track second = gulf_has_one link track second
 one_stop laid A9 link track second = west_has_one link track second
 one_stop laid hex link track second = refl
 
-pub parts_have_one_stop : (laid : MapState) → PartsHaveOneStop (position_of laid)
+pub parts_have_one_stop : (laid : MapState) (hex : Hex) (link : Link) → IsAmong link (links_of (position_of laid) hex)
+    → link.b ≡ AtStop Second → joined_hex hex ≡ hex
 parts_have_one_stop laid hex link among =
     one_stop laid hex link (subst (λ (h : InHex). IsAmong link h.links) (in_hex_is laid hex) among)

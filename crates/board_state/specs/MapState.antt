@@ -13,7 +13,7 @@ use Rattle.map_tables.specs.declared.place.Stop.{Stop}
 use Rattle.map_tables.specs.declared.place.StopNumber.{StopNumber}
 use Rattle.map_tables.specs.declared.place.StopNumber.TheVariants.{First, Second}
 use Rattle.map_tables.specs.declared.print.HexKind.{HexKind}
-use Rattle.map_tables.specs.declared.print.HexKind.TheVariants.{Open, Grey, Red}
+use Rattle.map_tables.specs.declared.print.HexKind.TheVariants.{Red}
 use Rattle.map_tables.specs.declared.print.PrintedValue.{PrintedValue}
 use Rattle.map_tables.specs.declared.track.Link.{Link}
 use Rattle.reach.specs.Lawful.{IsLawful}
@@ -53,19 +53,17 @@ value_on phase lays hex =
 
 -- whether a hex is red
 abbrev pub is_red_kind : HexKind → Bool
-is_red_kind (Open kind) = false
-is_red_kind Grey = false
 is_red_kind Red = true
+is_red_kind other = false
 
 -- what is at a stop
 abbrev pub on_map_at : MapState → Stop → AtStop
-on_map_at laid stop =
-    record {
-      value = value_on laid.phase laid.lays stop.hex;
-      red = is_red_kind (print_of stop.hex).kind;
-      slots = slots_on laid.lays stop.hex;
-      tokens = tokens_at laid.tokens stop;
-    }
+on_map_at laid stop = record {
+  value = value_on laid.phase laid.lays stop.hex;
+  red = is_red_kind (print_of stop.hex).kind;
+  slots = slots_on laid.lays stop.hex;
+  tokens = tokens_at laid.tokens stop;
+}
 
 -- the numbers of this many stops
 abbrev pub stop_numbers : ℕ → List StopNumber
@@ -75,8 +73,7 @@ stop_numbers (suc (suc more)) = First ∷ Second ∷ []
 
 -- what is at the stops of a hex; a stop that lies in two hexes is kept in the one that names it
 abbrev pub stops_in : MapState → Hex → List AtStop
-stops_in laid hex =
-    if same_hex (joined_hex hex) hex then map (λ number. on_map_at laid (stop_at hex number))
+stops_in laid hex = if same_hex (joined_hex hex) hex then map (λ number. on_map_at laid (stop_at hex number))
     (stop_numbers (print_of hex).stops) else []
 
 -- the track in a hex; one that is a part of another's stop is red and takes no tile, so that its

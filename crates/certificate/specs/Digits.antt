@@ -17,11 +17,9 @@ bits_of_bytes bytes = flat_map (bits_of 8) bytes
 
 -- the value of a hexadecimal digit, in upper or lower case
 abbrev pub digit_value : ℕ → Option ℕ
-digit_value byte =
-    if nat_le 48 byte && nat_le byte 57 then Some (byte - 48)
+digit_value byte = if nat_le 48 byte && nat_le byte 57 then Some (byte - 48)
     else if nat_le 97 byte && nat_le byte 102 then Some (byte - 97 + 10)
-    else if nat_le 65 byte && nat_le byte 70 then Some (byte - 65 + 10)
-    else None
+    else if nat_le 65 byte && nat_le byte 70 then Some (byte - 65 + 10) else None
 
 abbrev pub is_digit : ℕ → Bool
 is_digit byte = is_some (digit_value byte)

@@ -1,6 +1,6 @@
 -- A small example of the choice tree. The Pennsylvania has its token on H12 and two 2-trains; a
 -- yellow city lies on H10, worth 20, beside its home, worth 10. Its runs can earn 30, since one
--- border joins the two cities. These are the nodes with a bound over 30, in the tree's order, down
+-- border joins the two cities. These are the nodes with a bound above 30, in the tree's order, down
 -- to nodes whose bound is at most 30.
 use Rattle.std.specs.Prelude.{◌≡◌, ℕ, zero, suc, nat_le, Bool, true, false, if◌then◌else◌, Option, Some, None, List, []}
 use Rattle.std.specs.Prelude.{◌∷◌, map, codes}

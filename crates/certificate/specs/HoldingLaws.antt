@@ -15,8 +15,7 @@ use Rattle.legal_runs.specs.declared.claim.Claim.{Claim}
 
 -- a claim that is accepted has the greatest revenue
 abbrev pub AcceptedIsGreatest : Type 0
-AcceptedIsGreatest =
-    (position : Position) (company : Company) (trains : List Kind) (claim : Claim) (bits : List Bool) →
+AcceptedIsGreatest = (position : Position) (company : Company) (trains : List Kind) (claim : Claim) (bits : List Bool) →
     IsLawful position → IsAcceptedClaim position company trains claim bits
     → IsGreatest position company trains claim.revenue
 

@@ -68,8 +68,7 @@ root_of trains = node_of [] [] (greatest_first trains)
 
 -- the step into a link at one of its ends
 abbrev pub steps_by : TrackEnd → Link → List WalkStep
-steps_by end link =
-    if end_order link.a == end_order end then record { link = link; turned = false } ∷ [] else
+steps_by end link = if end_order link.a == end_order end then record { link = link; turned = false } ∷ [] else
     (if end_order link.b == end_order end then record { link = link; turned = true } ∷ [] else [])
 
 -- the steps that enter a link at an end in a hex, in the order of the links
@@ -154,8 +153,7 @@ module _ (position : Position) (company : Company) (reached : List Stop) where
 
   -- no run goes on from a stop
   abbrev pub is_last_stop : Node → Kind → Stop → Bool
-  is_last_stop node kind stop =
-      is_red position stop || (is_full position company stop
+  is_last_stop node kind stop = is_red position stop || (is_full position company stop
       || is_used_up (stops_of kind) (length (visited node.begun)))
 
   -- the choices to go on from a stop, unless the run must end there
@@ -229,8 +227,7 @@ new_values position stops (stop ∷ reached) =
 
 -- what a train that has visited these stops may still earn at others
 abbrev pub may_earn : Position → List Stop → Kind → List Stop → ℕ
-may_earn position reached kind stops =
-    still_to_come (stops_of kind) (length stops) (new_values position stops reached)
+may_earn position reached kind stops = still_to_come (stops_of kind) (length stops) (new_values position stops reached)
 
 -- what trains may earn that have not begun
 abbrev pub may_all_earn : Position → List Stop → List Kind → ℕ

@@ -16,7 +16,7 @@ pub struct Bits {
     bytes: Vec<u8>,
     /// The bits after them, the last in the lowest place.
     last: u8,
-    /// How many these are, under eight.
+    /// How many these are, less than eight.
     count: u8,
 }
 

@@ -127,7 +127,7 @@ fn digit_value(byte: u8) -> Option<u8>
     }
 }
 
-/// Returns the value of a hexadecimal digit, under 16; 0 for any other byte.
+/// Returns the value of a hexadecimal digit, less than 16; 0 for any other byte.
 pub(crate) fn value_of_digit(digit: u8) -> u8
     ensures value { result ≡ unwrap_or (digit_value digit) 0 }
     ensures bound { result < 16 }

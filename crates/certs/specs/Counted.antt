@@ -17,30 +17,21 @@ use Rattle.tables.specs.declared.roster.Company.{Company}
 use Rattle.tables.specs.declared.roster.Private.{Private}
 use Rattle.tables.specs.declared.seat.Seat.{Seat}
 use Rattle.tables.specs.declared.squares.Square.{Square}
-use Rattle.tables.specs.declared.squares.Zone.{Zone}
-use Rattle.tables.specs.declared.squares.Zone.TheVariants.{White, Yellow, Orange, Brown}
+use Rattle.tables.specs.declared.squares.Zone.TheVariants.{White}
 
 -- 1 for a private that the seat owns
 abbrev pub one_owned : Seat → Option Holder → ℕ
-one_owned seat None = 0
 one_owned seat (Some (holder.Seat owner)) = if owner.0 == seat.0 then 1 else 0
-one_owned seat (Some (holder.Company company)) = 0
+one_owned seat other = 0
 
 -- how many privates the seat owns
 abbrev pub privates_owned : (Private → Option Holder) → Seat → ℕ
 privates_owned owner seat = sum_by (λ private. one_owned seat (owner private)) privates
 
--- the zone is none
-abbrev is_white : Zone → Bool
-is_white White = true
-is_white Yellow = false
-is_white Orange = false
-is_white Brown = false
-
--- the certificates of a company on this square count
+-- the certificates of a company on this square count: it lies in no zone, or there is none
 abbrev pub counts_on : Option Square → Bool
 counts_on None = true
-counts_on (Some square) = is_white (zone_of square)
+counts_on (Some square) = elim (zone_of square) [ White ↦ true | _ ↦ false ]
 
 -- the seat presides
 abbrev pub presides : Seat → Option Seat → Bool
@@ -71,14 +62,12 @@ counted_in holdings seat =
 
 -- the certificates of a company that a seat has, by the events of a game
 abbrev pub certificates_now : List Event → Seat → Company → ℤ
-certificates_now events seat company =
-    certificates_of seat (square_of events company) (president_of events company)
+certificates_now events seat company = certificates_of seat (square_of events company) (president_of events company)
     (shares_of events company (OfSeat seat))
 
 -- how many count, by the events of a game
 abbrev pub counted_of : List Event → Seat → ℤ
-counted_of events seat =
-    pos (privates_owned (owner_of events) seat)
+counted_of events seat = pos (privates_owned (owner_of events) seat)
     +ℤ certificates_in (λ company. certificates_now events seat company) companies
 
 -- as many count by the holdings of a game as by its events

@@ -29,7 +29,7 @@ per_share revenue = revenue / 10
 abbrev pub dividend_of : List Event → Company → Shareholder → ℕ → ℕ
 dividend_of events company place revenue = at_least_zero (shares_of events company place) * per_share revenue
 
--- after a dividend of the bank to a holder, if it is over 0; perhaps that breaks the bank
+-- after a dividend of the bank to a holder, if it is more than 0; perhaps that breaks the bank
 abbrev pub dividend_paid_to : Company → Holder → ℕ → Game → Game
 dividend_paid_to company holder amount game =
     if amount == 0 then game else broken_recorded (with_event game (event.Dividend company holder amount))
@@ -47,8 +47,7 @@ paid_to_seats company revenue game (seat ∷ others) =
 
 -- after all are paid
 abbrev pub all_paid : Company → ℕ → Game → Game
-all_paid company revenue game =
-    paid_for company (holder.Company company) place.BankPool revenue
+all_paid company revenue game = paid_for company (holder.Company company) place.BankPool revenue
     (paid_to_seats company revenue game (all_seats game.seats))
 
 -- after the company has paid

@@ -29,7 +29,7 @@ use Rattle.tables.specs.declared.roster.Company.{Company}
 use Rattle.tables.specs.declared.seat.Seat.{Seat}
 use Rattle.tables.specs.declared.squares.Square.{Square}
 use Rattle.tables.specs.declared.squares.Zone.{Zone}
-use Rattle.tables.specs.declared.squares.Zone.TheVariants.{White, Yellow, Orange, Brown}
+use Rattle.tables.specs.declared.squares.Zone.TheVariants.{Orange, Brown}
 
 -- the company whose share is bought
 abbrev pub company_of : Purchase → Company
@@ -62,17 +62,14 @@ cost_of events (Share company from) = share_price_of events company from
 
 -- the limit of six shares does not hold in a zone: the orange or the brown
 abbrev pub lifts_six : Zone → Bool
-lifts_six White = false
-lifts_six Yellow = false
 lifts_six Orange = true
 lifts_six Brown = true
+lifts_six other = false
 
 -- several certificates of a company may be bought in a turn in a zone: the brown
 abbrev pub allows_several : Zone → Bool
-allows_several White = false
-allows_several Yellow = false
-allows_several Orange = false
 allows_several Brown = true
+allows_several other = false
 
 -- something holds in the zone of a square; without a square it does not
 abbrev pub holds_in_zone : (Zone → Bool) → Option Square → Bool
@@ -103,22 +100,17 @@ unfoldable pub is_at_limit : ℕ → List Event → Seat → Company → Bool
 is_at_limit seats events seat company =
     counts_on (square_of events company) && le_z (pos (certificate_limit_of seats)) (counted_of events seat)
 
--- with this many more shares the seat would have over six of a company, and the zone does not lift
+-- with this many more shares the seat would have more than six of a company, and the zone does not lift
 -- that limit
 unfoldable pub is_over_six : List Event → Seat → Company → ℕ → Bool
-is_over_six events seat company shares =
-    not (holds_in_zone lifts_six (square_of events company))
+is_over_six events seat company shares = not (holds_in_zone lifts_six (square_of events company))
     && lt_z (pos 6) (shares_of events company (OfSeat seat) +ℤ pos shares)
-
--- a company is the one of which the seat has bought, and several of it may be bought
-abbrev pub is_one_of_several : List Event → Company → Company → Bool
-is_one_of_several events company bought =
-    same_company company bought && holds_in_zone allows_several (square_of events company)
 
 -- the seat has bought already in this turn, and this is not one of several
 unfoldable pub is_second : List Event → Company → Option Company → Bool
 is_second events company None = false
-is_second events company (Some bought) = not (is_one_of_several events company bought)
+is_second events company (Some bought) =
+    not (same_company company bought && holds_in_zone allows_several (square_of events company))
 
 -- The rules that a purchase may break, in a turn in which the seat has bought of this company, if
 -- it has bought. They are:
@@ -129,7 +121,7 @@ is_second events company (Some bought) = not (is_one_of_several events company b
 -- - the company is started, or is not;
 -- - the cost is over the seat's cash;
 -- - the certificate counts, and the limit is reached;
--- - the seat would have over six shares;
+-- - the seat would have more than six shares;
 -- - it has bought already.
 abbrev pub share_purchase_rules : ℕ → List Event → Seat → Purchase → Option Company → List (Rule StockRule)
 share_purchase_rules seats events seat purchase bought =
@@ -140,8 +132,7 @@ share_purchase_rules seats events seat purchase bought =
     ∷ record { code = CashTooSmall; broken = is_short_of_cash seats events seat (cost_of events purchase) }
     ∷ record { code = CertificateLimit; broken = is_at_limit seats events seat (company_of purchase) }
     ∷ record { code = OverSixShares; broken = is_over_six events seat (company_of purchase) (shares_bought purchase) }
-    ∷ record { code = BoughtBefore; broken = is_second events (company_of purchase) bought }
-    ∷ []
+    ∷ record { code = BoughtBefore; broken = is_second events (company_of purchase) bought } ∷ []
 
 -- the first rule that a purchase breaks
 unfoldable pub purchase_judgement : ℕ → List Event → Seat → Purchase → Option Company → Option StockRule

@@ -20,21 +20,19 @@ use Rattle.tables.specs.Roster.{same_company}
 use Rattle.tables.specs.Rules.{Rule, first_broken}
 use Rattle.tables.specs.declared.roster.Company.{Company}
 use Rattle.tables.specs.declared.round.Round.{Round}
-use Rattle.tables.specs.declared.round.Round.TheVariants.{Opening, Stock, Operating}
+use Rattle.tables.specs.declared.round.Round.TheVariants.{Stock}
 use Rattle.tables.specs.declared.seat.Seat.{Seat}
 
 -- it is the first stock round
 abbrev pub is_first_stock : Option Round → Bool
-is_first_stock None = false
-is_first_stock (Some (Opening number)) = false
 is_first_stock (Some (Stock set)) = set == 1
-is_first_stock (Some (Operating set number)) = false
+is_first_stock other = false
 
 -- no shares are to be sold, or more than the seat has
 unfoldable pub is_not_held : List Event → Seat → Sale → Bool
 is_not_held events seat sale = sale.shares == 0 || lt_z (shares_of events sale.company (OfSeat seat)) (pos sale.shares)
 
--- the bank pool would hold over five shares of the company
+-- the bank pool would hold more than five shares of the company
 unfoldable pub is_over_five : List Event → Sale → Bool
 is_over_five events sale = lt_z (pos 5) (shares_of events sale.company BankPool +ℤ pos sale.shares)
 
@@ -67,8 +65,7 @@ moves_operating seats events seat sale (Some operating) =
 
 -- the seat presides over the company, and may not sell this many of its shares
 unfoldable pub must_stay : ℕ → List Event → Seat → Sale → Option Company → Bool
-must_stay seats events seat sale operating =
-    presides seat (president_of events sale.company)
+must_stay seats events seat sale operating = presides seat (president_of events sale.company)
     && (none_is_left seats events seat sale || moves_operating seats events seat sale operating)
 
 -- The rules that a sale may break, with the company that operates, if the sale is to pay for a
@@ -76,7 +73,7 @@ must_stay seats events seat sale operating =
 --
 -- - it is the first stock round;
 -- - no shares are to be sold, or more than the seat has;
--- - the pool would hold over five;
+-- - the pool would hold more than five;
 -- - the president must stay;
 -- - the company is not started.
 abbrev pub sale_rules : ℕ → List Event → Seat → Sale → Option Company → List (Rule StockRule)
@@ -85,8 +82,7 @@ sale_rules seats events seat sale operating =
     ∷ record { code = NotHeld; broken = is_not_held events seat sale }
     ∷ record { code = PoolFull; broken = is_over_five events sale }
     ∷ record { code = PresidentMustStay; broken = must_stay seats events seat sale operating }
-    ∷ record { code = WrongStart; broken = not (is_started events sale.company) }
-    ∷ []
+    ∷ record { code = WrongStart; broken = not (is_started events sale.company) } ∷ []
 
 -- the first rule that a sale breaks
 unfoldable pub sale_judgement : ℕ → List Event → Seat → Sale → Option Company → Option StockRule

@@ -47,12 +47,12 @@ abbrev pub IsTaken : List ℤ → List ℤ → ℕ → ℕ → Type 0
 IsTaken old new from shares =
     (k : ℕ) → slice_index_or new k (pos 0) ≡ slice_index_or old k (pos 0) -ℤ only_at from k (pos shares)
 
--- shares that are neither many nor far under 0
+-- shares that are neither many nor far below 0
 pub record IsSmall (shares : ℤ) : Type 0 where
   pub not_under : neg_ℤ (pos (2 ^ 100)) ≤ℤ shares
   pub not_over : shares ≤ℤ pos (2 ^ 104)
 
--- certificates that are neither many nor far under 0
+-- certificates that are neither many nor far below 0
 pub record IsFew (certificates : ℤ) : Type 0 where
   pub not_under : neg_ℤ (pos (2 ^ 105)) ≤ℤ certificates
   pub not_over : certificates ≤ℤ pos (2 ^ 105)

@@ -157,8 +157,8 @@ fn has_full_hand(now: &GameView, seat: Seat) -> bool
     counted_now(now, seat) >= certificate_limit(now.seats()) as ShareCount
 }
 
-/// Returns whether with this many more shares a seat would have over six of a company, and the zone
-/// of the company's square does not lift that limit.
+/// Returns whether with this many more shares a seat would have more than six of a company, and the
+/// zone of the company's square does not lift that limit.
 #[tactic(auto, unfolding(crate::specs::Purchase::is_over_six))]
 pub fn is_over_six(now: &GameView, seat: Seat, company: Company, shares: u8) -> bool
     ensures { result ≡ is_over_six now.now.events seat company shares }

@@ -63,7 +63,7 @@ fn is_not_held(now: &GameView, seat: Seat, sale: Sale) -> bool
         || now.shares(sale.company, Shareholder::Seat(seat)) < ShareCount::from(sale.shares)
 }
 
-/// Returns whether the bank pool would hold over five shares of the company.
+/// Returns whether the bank pool would hold more than five shares of the company.
 #[tactic(auto, unfolding(crate::specs::Sale::is_over_five))]
 fn is_over_five(now: &GameView, sale: Sale) -> bool
     ensures { result ≡ is_over_five now.now.events sale }

@@ -4,7 +4,7 @@
 -- train, and begin a phase or a round. It may rule a line of a seat, obey an order, and say that
 -- the bank is broken or that a president is bankrupt. Every fact about a game looks back over one
 -- of them.
-use Rattle.std.specs.Prelude.{◌≡◌, ℕ, Bool, true, false, Option, Some, None, if◌then◌else◌, is_some}
+use Rattle.std.specs.Prelude.{◌≡◌, ℕ, Bool, true, false, Option, Some, None, if◌then◌else◌, is_some, option_and_then}
 pub use Rattle.order_grammar.specs.declared.order.Order.{Order}
 use Rattle.order_grammar.specs.declared.order.Order.TheVariants as order
 use Rattle.order_grammar.specs.declared.order.ShareSource.{ShareSource}
@@ -68,9 +68,8 @@ place_of_seller (seller.Company company) = train_place.Company company
 
 -- who is paid for a train that is bought there
 abbrev pub party_of_seller : TrainSeller → Party
-party_of_seller seller.Bank = party.Bank
-party_of_seller seller.BankPool = party.Bank
 party_of_seller (seller.Company company) = party_of_company company
+party_of_seller other = party.Bank
 
 -- where the trains of a company lie, or those of the bank pool if there is no owner
 abbrev pub train_owner_place : Option Company → TrainPlace
@@ -83,25 +82,19 @@ train_owner_place (Some company) = train_place.Company company
 -- company that floats, and one that withholds.
 abbrev pub payment_of : Event → Option Payment
 payment_of (Sold private seat price) = Some (record { from = party_at seat; to = party.Bank; amount = price })
-payment_of (Revenue private owner amount) = Some
-    (record { from = party.Bank; to = party.Holder owner; amount = amount })
-payment_of (Bought company seat shares from price) =
-    Some (record { from = party_at seat; to = party.Bank; amount = price })
+payment_of (Revenue private owner sum) = Some (record { from = party.Bank; to = party.Holder owner; amount = sum })
+payment_of (Bought company seat shares from sum) = Some (record { from = party_at seat; to = party.Bank; amount = sum })
 payment_of (Sells company seat shares price) = Some (record { from = party.Bank; to = party_at seat; amount = price })
 payment_of (Floats company amount) = Some (record { from = party.Bank; to = party_of_company company; amount = amount })
 payment_of (Laid company lay cost) = Some (record { from = party_of_company company; to = party.Bank; amount = cost })
-payment_of (Token company place cost) = Some (record
-    { from = party_of_company company; to = party.Bank; amount = cost })
-payment_of (Withheld company amount) = Some (record
-    { from = party.Bank; to = party_of_company company; amount = amount })
-payment_of (Dividend company holder amount) = Some
-    (record { from = party.Bank; to = party.Holder holder; amount = amount })
+payment_of (Token company place sum) = Some (record { from = party_of_company company; to = party.Bank; amount = sum })
+payment_of (Withheld company sum) = Some (record { from = party.Bank; to = party_of_company company; amount = sum })
+payment_of (Dividend company holder sum) = Some (record { from = party.Bank; to = party.Holder holder; amount = sum })
 payment_of (Train company kind from price) =
     Some (record { from = party_of_company company; to = party_of_seller from; amount = price })
 payment_of (PrivateBought private company seller price) =
     Some (record { from = party_of_company company; to = party_at seller; amount = price })
-payment_of (Aid seat company amount) =
-    Some (record { from = party_at seat; to = party_of_company company; amount = amount })
+payment_of (Aid seat company sum) = Some (record { from = party_at seat; to = party_of_company company; amount = sum })
 payment_of other = None
 
 -- the sum of money that an event names, or 0
@@ -206,7 +199,7 @@ operated_by (Withheld company amount) = Some company
 operated_by other = None
 
 -- the train that an event moves: one that is bought goes to the company, one that is traded in or
--- discarded goes from it to the pool. One that rusts leaves play.
+-- discarded goes from it to the pool. One that rusts is removed from the game.
 abbrev pub train_moved : Event → Option TrainMove
 train_moved (Train company kind from price) =
     Some (record { kind = kind; from = place_of_seller from; to = train_place.Company company })
@@ -259,14 +252,9 @@ abbrev pub obeyed_says : {A : Type 0} → (Order → Option A) → Option Order 
 obeyed_says says None = None
 obeyed_says says (Some order) = says order
 
--- the order that a ruling obeys, with the seat and the line
-abbrev pub obeyed_by : Seat → ℕ → Ruling → Option Obeyance
-obeyed_by seat line (Obeyed condition order) = Some (record { seat = seat; line = line; order = order })
-obeyed_by seat line other = None
-
--- the order that an event obeys
+-- the order that an event obeys, with its seat and its line
 abbrev pub obeyed_of : Event → Option Obeyance
-obeyed_of (Ruled seat line ruling) = obeyed_by seat line ruling
+obeyed_of (Ruled seat line (Obeyed condition order)) = Some (record { seat = seat; line = line; order = order })
 obeyed_of other = None
 
 -- the order is by itself an act of a turn: it buys a private or bids on one, or sells shares. The
@@ -286,16 +274,11 @@ is_act_obeyed (Some order) = is_act order
 abbrev pub acts : Ruling → Bool
 acts ruling = is_act_obeyed (order_obeyed ruling)
 
--- the seat that acted in its own turn by an obeyed order
-abbrev pub actor_by : Option Obeyance → Option Seat
-actor_by None = None
-actor_by (Some obeyed) = if is_act obeyed.order then Some obeyed.seat else None
-
 -- the seat that acted in its own turn by this event: it bought a private or bid on one, or bought
 -- or sold shares of a company
 abbrev pub actor_of : Event → Option Seat
 actor_of (Bought company seat shares from price) = Some seat
-actor_of other = actor_by (obeyed_of other)
+actor_of other = option_and_then (λ obeyed. if is_act obeyed.order then Some obeyed.seat else None) (obeyed_of other)
 
 -- an event says nothing of what parties have and own, of SV's price, or of the tiles and tokens on
 -- the map

@@ -22,8 +22,7 @@ same_offer (offer.Private private buyer price) (offer.Private of to sum) =
     same_private private of && same_terms buyer price to sum
 same_offer (offer.Train kind seller buyer price) (offer.Train of from to sum) =
     same_kind kind of && (same_company seller from && same_terms buyer price to sum)
-same_offer (offer.Private private buyer price) (offer.Train of from to sum) = false
-same_offer (offer.Train kind seller buyer price) (offer.Private of to sum) = false
+same_offer sale other = false
 
 -- a sale, if an order offers it
 abbrev pub offered_in : Offer → Order → Option Offer

@@ -19,7 +19,7 @@ use Rattle.order_grammar.specs.declared.order.Order.{Order}
 use Rattle.order_grammar.specs.declared.order.Order.TheVariants as order
 use Rattle.order_grammar.specs.declared.play.PlayOrder.{PlayOrder}
 
--- an order that is packed in a box: one under a condition, a run of over five places, or a line
+-- an order that is packed in a box: one under a condition, a run of more than five places, or a line
 -- that is no order of play
 abbrev pub TakesBox : Option Condition → Order → Type 0
 TakesBox None (order.Run kind run) = 5 < length run

@@ -200,7 +200,7 @@ pub enum Event {
     },
     /// The first train of a kind begins this phase.
     Phase(Kind),
-    /// A train of a company, or of the bank pool if no company is named, leaves play.
+    /// A train of a company, or of the bank pool if no company is named, is removed from the game.
     Rusted {
         owner: Option<Company>,
         kind: Kind,

@@ -48,7 +48,7 @@ rusts_another Five new rusts = absurd cc
 rusts_another Six new rusts = absurd cc
 rusts_another Diesel new rusts = absurd cc
 
--- this many of a count that is not over 0
+-- this many of a count that is not more than 0
 few_are_none : (count : ℤ) → count ≤ℤ pos 0 → at_least_zero count ≡ 0
 few_are_none (pos n) few = omega (arith, ints, few)
 few_are_none (negsuc n) few = refl
@@ -227,7 +227,7 @@ module _ (company : Company) (own : Kind) where
         | false ↦ first
       ]
 
--- a count that is not over 0
+-- a count that is not more than 0
 not_over : (size : ℤ) → lt_z (pos 0) size ≡ false → size ≤ℤ pos 0
 not_over size none = grind (arith, ints, none)
 

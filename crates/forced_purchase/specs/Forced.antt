@@ -48,16 +48,12 @@ sold_singly by game = iterate (sold_further by) 40 game
 
 -- with AID, if the company lacks anything
 unfoldable pub with_aid : Operator → Game → Game
-with_aid by game =
-    if lt_z (pos 0) (lack_of game by.company)
-    then with_event game (event.Aid by.president by.company (at_least_zero (lack_of game by.company)))
-    else game
+with_aid by game = if lt_z (pos 0) (lack_of game by.company)
+    then with_event game (event.Aid by.president by.company (at_least_zero (lack_of game by.company))) else game
 
 -- after the purchase, or the bankruptcy of the president
 unfoldable pub concluded : Operator → Game → Game
-concluded by game =
-    if falls_short by game
-    then with_event game (event.Bankrupt by.president)
+concluded by game = if falls_short by game then with_event game (event.Bankrupt by.president)
     else after_train (with_aid by game) by.company (cheapest game.events)
 
 -- after a purchase that is due, with these as the company's orders

@@ -25,11 +25,8 @@ purchase_without_trade_in kind from = record { kind = kind; from = from; trade_i
 -- pool; a D of the bank if none is
 unfoldable pub first_on_sale : List Event → List Kind → TrainPurchase
 first_on_sale events [] = purchase_without_trade_in Diesel seller.Bank
-first_on_sale events (kind ∷ others) =
-    if sells events kind
-    then purchase_without_trade_in kind seller.Bank
-    else (if lt_z (pos 0) (trains_held events None kind)
-    then purchase_without_trade_in kind seller.BankPool
+first_on_sale events (kind ∷ others) = if sells events kind then purchase_without_trade_in kind seller.Bank
+    else (if lt_z (pos 0) (trains_held events None kind) then purchase_without_trade_in kind seller.BankPool
     else first_on_sale events others)
 
 -- the cheapest train that is for sale: the kinds are in the order of their price, and the bank

@@ -1,8 +1,8 @@
 //! The purchase that a company must make.
 //!
 //! Its president pays what it lacks. A president who falls short sells shares: first by the RAISE
-//! lines of the company's orders, then one share at a time. A president who still falls short is
-//! bankrupt.
+//! lines of the company's orders, then singly, each at a lower price. A president who still falls
+//! short is bankrupt.
 ghost use Rattle.std.specs.Prelude.{◌≡◌, ◌≤◌, ◌<◌, OnOk, false};
 ghost use Rattle.history.specs.Games.{IsGame};
 ghost use Rattle.history.specs.Sound.{IsSound};

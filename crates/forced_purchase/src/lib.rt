@@ -2,7 +2,7 @@
 //!
 //! It is the cheapest train that the bank or the pool sells. The president pays what the company
 //! lacks. A president who falls short sells shares: first by the RAISE lines of the company's
-//! orders, then one share at a time. A president who still falls short is bankrupt.
+//! orders, then singly, each at a lower price. A president who still falls short is bankrupt.
 //!
 //! The caller checks whether a company must buy; these functions take a company without a train.
 //!

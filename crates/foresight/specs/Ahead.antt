@@ -51,7 +51,7 @@ pub record OrdersState : Type 0 where
 abbrev pub drafted_in : AheadState → Operator → List Numbered
 drafted_in ahead by = orders_of ahead.file ahead.drafter ahead.round by
 
--- a company is behind the orders that are looked at, or at the head of its orders if none are
+-- a company is behind the orders that are looked at, or at the start of its orders if none are
 pub record IsBehindDraft (ahead : AheadState) (by : Operator) (orders : OrdersState) : Type 0 where
   pub file : orders.file ≡ ahead.file
   pub drafter : orders.drafter ≡ ahead.drafter

@@ -1,4 +1,4 @@
--- A game at the head of a turn of the round that comes, and the files of trials.
+-- A game at the start of a turn of the round that comes, and the files of trials.
 pub mod Draft
 pub mod Ahead
 pub mod Orders

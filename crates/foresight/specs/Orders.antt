@@ -1,5 +1,6 @@
--- A company at the head of its orders in an operating round that comes: the privates have paid, each company before it has
--- had its turn, and its home token lies. It is what play comes to if nobody has orders, or only one player has.
+-- A company at the start of its orders in an operating round that comes: the privates have paid,
+-- each company before it has had its turn, and its home token lies. It is what play comes to if
+-- nobody has orders, or only one player has.
 use Rattle.std.specs.Prelude.{◌≡◌, Bool, false, ◌||◌, List, [], ◌∷◌, Some, None}
 use Rattle.foresight.specs.Ahead.{AheadState, HasTurn, IsBehindDraft}
 use Rattle.foresight.specs.declared.round_ahead.Ahead.{Ahead}
@@ -28,8 +29,8 @@ pub record OthersHaveTurns (company : Company) (old new : AheadState) : Type 0 w
   pub turns : HaveTurns before old new
   pub others : is_among company before ≡ false
 
--- a company that comes next, by its president, if it has one: it is at the head of its orders, or behind those that are
--- looked at
+-- a company that comes next, by its president, if it has one: it is at the start of its orders, or
+-- behind those that are looked at
 abbrev pub IsLed : Company → AheadState → Ahead → Type 0
 IsLed company ahead (AtOrders orders) =
     (president : Seat) × (president_of ahead.game.events company ≡ Some president)

@@ -19,7 +19,7 @@ use Rattle.tables.specs.declared.seat.Seat.{Seat}
 use Rattle.totals.specs.LookBack.{Game, is_sold, priority_of}
 use Rattle.totals.specs.Shares.{square_of}
 
--- a seat is at the head of its first turn, in which it has done nothing yet
+-- a seat is at the start of its first turn, in which it has done nothing yet
 pub record IsAtHead (round : Round) (seat : Seat) (old : Game) (turn : TurnAhead) : Type 0 where
   pub seats : turn.history.seats ≡ old.seats
   pub there : IsTheirTurn old.seats (priority_of old.seats old.events) seat (old.events ++ event.Round round ∷ [])

@@ -1,4 +1,4 @@
-//! A game ahead of play: at the head of a turn of the coming round, which has not been played yet.
+//! A game ahead of play: at the start of a turn of the coming round, which has not been played yet.
 //!
 //! "May I?" is a question about a position, and that is not the game as the last round left it: in
 //! the coming round the privates pay first, what was sold in the last round no longer matters, home
@@ -7,7 +7,7 @@
 //! ask for that.
 //!
 //! Reading order: `draft` (whose sheet is looked at), `round_ahead` (a coming operating round, turn
-//! by turn), `orders_ahead` (a company's turn in it, at the head of its orders or after those
+//! by turn), `orders_ahead` (a company's turn in it, at the start of its orders or after those
 //! drafted), `first_turn` (a coming round of turns up to the end of a seat's first turn),
 //! `turn_ahead` (an opening or a stock round up to there, or up to the head of that turn),
 //! `trial_file` (the files that trials play), `laws`.

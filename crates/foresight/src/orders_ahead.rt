@@ -1,4 +1,4 @@
-//! A company's turn in a coming operating round, at the head of its orders or after those drafted.
+//! A company's turn in a coming operating round, at the start of its orders or after those drafted.
 //! From there the company can withhold, turn out to need a train, or finish its turn.
 ghost use Rattle.std.specs.Prelude.{◌≡◌, ◌↔◌, IfOk, IsTrue};
 ghost use Rattle.board_state.specs.MapState.{position_of};
@@ -20,8 +20,8 @@ use std::alloc::{AllocError, Global};
 use std::marker::Model;
 use tables::Round;
 
-/// A company's turn in a coming operating round, at the head of its orders, or after those that are
-/// looked at.
+/// A company's turn in a coming operating round, at the start of its orders, or after those that
+/// are looked at.
 #[derive(Drop)]
 pub struct OrdersAhead<'a> {
     pub(crate) alloc: Global,

@@ -216,7 +216,7 @@ fn played(
 /// What becomes of a company in a coming operating round.
 #[derive(Drop)]
 pub enum Ahead<'a> {
-    /// It is at the head of its orders, or after those that are looked at.
+    /// It is at the start of its orders, or after those that are looked at.
     AtOrders(OrdersAhead<'a>),
     /// It has a turn, but no president to give its orders.
     NoPresident,

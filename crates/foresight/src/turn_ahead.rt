@@ -44,7 +44,7 @@ pub fn at_head(history: History, round: Round, seat: Seat) -> Result<TurnAhead, 
     })
 }
 
-/// Returns a game at the head of a seat's first turn.
+/// Returns a game at the start of a seat's first turn.
 fn at_turn(history: History, round: Round, seat: Seat) -> Result<History, AllocError>
     requires sound { IsSound history }
     requires few { history.seats ≤ 6 }

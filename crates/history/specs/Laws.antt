@@ -51,7 +51,7 @@ OwnersAreParties =
 abbrev pub QuietKeepsSound : Type 0
 QuietKeepsSound = (game : Game) (event : Event) → IsQuiet event → IsSound game → IsSound (with_event game event)
 
--- A bid of a seat at the table keeps a list sound under three conditions. It is at most 99,999, no
+-- A bid of a seat at the table keeps a list sound on three conditions. It is at most 99,999, no
 -- other seat has that bid on the private, and the seat has the sum free of its other bids.
 abbrev pub BidKeepsSound : Type 0
 BidKeepsSound =
@@ -129,7 +129,7 @@ StartByPurchaseKeepsSound =
     → IsSound (with_event (with_event (with_event game (Par company price))
     (Bought company seat 2 source.InitialOffering cost)) (President company seat))
 
--- A purchase of shares of a company that has a square keeps a list sound under two conditions.
+-- A purchase of shares of a company that has a square keeps a list sound on two conditions.
 -- There are this many, and a seat at the table has their price free of its bids.
 abbrev pub PurchaseKeepsSound : Type 0
 PurchaseKeepsSound =

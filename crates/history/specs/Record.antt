@@ -45,7 +45,7 @@ revenue_recorded private game =
 abbrev pub revenues_recorded : Game → Game
 revenues_recorded game = record { seats = game.seats; events = after_revenues game.seats game.events privates }
 
--- a LEFT event for a count over 0, before others
+-- a LEFT event for a count more than 0, before others
 abbrev pub with_left : Seat → ℕ → List Event → List Event
 with_left seat count events = if count == 0 then events else event.Left seat count ∷ events
 

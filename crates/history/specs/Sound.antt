@@ -2,9 +2,9 @@
 -- those keeps it.
 --
 -- - No seat has less cash than its standing bids tie, and no company owes anything.
--- - Standing bids are of seats at the table. Those on a private differ, and none is over 99,999.
+-- - Standing bids are of seats at the table. Those on a private differ, and none is more than 99,999.
 -- - SV's price is 5, 10, 15 or 20, or 0 once SV is sold.
--- - Each company's shares are nowhere under 0, and ten in all. Of a company without a square at
+-- - Each company's shares are nowhere below 0, and ten in all. Of a company without a square at
 --   least eight are in its initial offering, nine of PRR while CA is unsold and of NYC while MH is
 --   open.
 -- - A company that has a square or has floated has one of the six par values, and a president with
@@ -50,7 +50,7 @@ BidsDiffer events =
     (private : Private) (a b : Seat) (amount : ℕ) → bid_of events private a ≡ Some amount
     → bid_of events private b ≡ Some amount → a ≡ b
 
--- no bid is over 99,999
+-- no bid is more than 99,999
 abbrev pub BidsAreSmall : List Event → Type 0
 BidsAreSmall events =
     (private : Private) (seat : Seat) (amount : ℕ) → bid_of events private seat ≡ Some amount → amount ≤ 99999

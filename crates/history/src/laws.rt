@@ -103,7 +103,7 @@ pub fn start_keeps_sound()
     ensures purchase { StartByPurchaseKeepsSound }
 {}
 
-/// States that a purchase of shares of a started company keeps a list sound under two conditions.
+/// States that a purchase of shares of a started company keeps a list sound on two conditions.
 /// There are that many, and a seat at the table has their price besides its bids.
 pub fn purchase_keeps_sound()
     ensures { PurchaseKeepsSound }

@@ -7,7 +7,7 @@ use Rattle.std.proofs.Common.{refl, ap, sym, ◌∙◌, subst, arith, find, lit<
 use Rattle.std.specs.List.{list_any}
 use Rattle.std.proofs.lemmas.Bool.{and_parts, eqb-true, eq-eqb, ltb-true}
 use Rattle.std.proofs.lemmas.List.{append-nil, append_assoc, length-append}
-use Rattle.map_tables.specs.Border.{adjacent, neighbour_of, open_to, is_closed}
+use Rattle.map_tables.specs.Border.{adjacent, closed_borders, joins, neighbour_of, open_to}
 use Rattle.map_tables.specs.Hex.{column_of, hex_at, index_of, row_of, site_of}
 use Rattle.map_tables.specs.Laws.{are_links, is_link, leads}
 use Rattle.map_tables.specs.Place.{joined_hex, joined_stop_of, stop_at}
@@ -58,7 +58,7 @@ open_by next other false is = is
 open_is : (hex : Hex) (found : Option Hex) (other : Hex) → option_and_then (open_to hex) found ≡ Some other
     → found ≡ Some other
 open_is hex None other is = cc
-open_is hex (Some next) other is = open_by next other (is_closed hex next) is
+open_is hex (Some next) other is = open_by next other (list_any (joins hex next) closed_borders) is
 
 lies_at : (hex other : Hex) (side : Side) → neighbour_of hex side ≡ Some other → adjacent hex side ≡ Some other
 unfolding neighbour_of
@@ -483,7 +483,7 @@ module _ (position : Position) (lawful : IsLawful position) where
     most = omega (arith, as_many (step ∷ before), few);
   }
 
--- a walk that can be written out: it leads from a stop to a stop, passes no red stop and crosses at
+-- a walk that can be written in full: it leads from a stop to a stop, passes no red stop and crosses at
 -- most 279 borders
 record CanBeWritten (position : Position) (steps : List WalkStep) : Type 0 where
   walk : IsWalk position steps
@@ -513,7 +513,7 @@ legal_written position company kind used steps lawful run = walks_written positi
   few_borders = no_more 279 (crossed steps) run.no_border_twice (crossed_low 279 steps (omega arith));
 })
 
--- so each can be written out
+-- so each can be written in full
 pub each_named : EachLegalRunIsNamed
 each_named position company kind used steps lawful run =
     (places_of steps, legal_written position company kind used steps lawful run)

@@ -1,4 +1,4 @@
--- A claim: what a company's trains earn, and runs that earn it, written out by their places. It
+-- A claim: what a company's trains earn, and runs that earn it, in full by their places. It
 -- holds if these places name the walks of a legal set of runs for the trains, and the set earns
 -- what is claimed.
 use Rattle.std.specs.Prelude.{◌≡◌, Some, List, [], ◌∷◌}

@@ -28,12 +28,10 @@ has_token_at_stop position company stop = list_any (λ other. same_company other
 
 -- whether a stop is a city that is full for a company
 abbrev pub is_full : Position → Company → Stop → Bool
-is_full position company stop =
-    let here = at_stop position stop in
-    nat_lt 0 here.slots
+is_full position company stop = let here = at_stop position stop in nat_lt 0 here.slots
     && (not (nat_lt (length here.tokens) here.slots) && not (has_token_at_stop position company stop))
 
--- a train visits under two stops, or more than its kind may
+-- a train visits fewer than two stops, or more than its kind may
 abbrev pub is_wrong_number : Kind → ℕ → Bool
 is_wrong_number kind count = nat_lt count 2 || option_map_or (λ most. nat_lt most count) (stops_of kind) false
 
@@ -53,8 +51,7 @@ has_border border borders = list_any (λ other. other == border) borders
 -- a border is crossed that the walk, or an earlier run of the turn, has crossed
 abbrev pub has_border_twice : List ℕ → List ℕ → Bool
 has_border_twice used [] = false
-has_border_twice used (border ∷ borders) =
-    has_border_twice used borders
+has_border_twice used (border ∷ borders) = has_border_twice used borders
     || (has_border border used || has_border border borders)
 
 -- a step goes on from a stop that passes a test; the first step goes on from nowhere
@@ -87,8 +84,7 @@ rules_of_walk position company kind used steps =
 
 -- the rules of a run: that there is a walk, and those of the walk
 abbrev pub rules_of_run : Position → Company → Kind → List ℕ → List Place → List (Rule RunRule)
-rules_of_run position company kind used places =
-    let walk = walk_named position places in
+rules_of_run position company kind used places = let walk = walk_named position places in
     tested_run_rule NoTrack (is_none walk) ∷ rules_of_walk position company kind used (unwrap_or walk [])
 
 -- the first rule that a run breaks

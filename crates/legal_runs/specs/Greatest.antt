@@ -1,4 +1,4 @@
--- The laws of the greatest revenue, whatever lies. There is exactly one, and it is under 50,000
+-- The laws of the greatest revenue, whatever lies. There is exactly one, and it is less than 50,000
 -- dollars. More trains do not make it less, nor does a train that may visit more stops in place of
 -- another. The order of the trains changes nothing.
 use Rattle.std.specs.Prelude.{◌≡◌, ℕ, ◌<◌, ◌≤◌, List, ◌∷◌}
@@ -10,7 +10,7 @@ use Rattle.tables.specs.declared.roster.Company.{Company}
 use Rattle.legal_runs.specs.Legal.{AreAtMost}
 use Rattle.legal_runs.specs.Set.{AreTakenFrom, IsGreatest, in_number}
 
--- there is a greatest revenue, of under 50,000 dollars
+-- there is a greatest revenue, of less than 50,000 dollars
 abbrev pub AGreatestExists : Type 0
 AGreatestExists =
     (position : Position) (company : Company) (trains : List Kind) →

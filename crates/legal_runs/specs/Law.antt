@@ -90,7 +90,7 @@ pub record AreItsPlaces (position : Position) (steps : List WalkStep) (places : 
   pub least : 2 ≤ length places
   pub most : length places ≤ 280
 
--- each legal run can be written out: 2 to 280 places name it
+-- each legal run can be written in full: 2 to 280 places name it
 abbrev pub EachLegalRunIsNamed : Type 0
 EachLegalRunIsNamed =
     (position : Position) (company : Company) (kind : Kind) (used : List ℕ) (steps : List WalkStep) →

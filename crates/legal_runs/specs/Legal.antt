@@ -48,8 +48,7 @@ map_borders = 279
 
 -- the number of the border at a side of a hex
 unfoldable pub border_of : Hex → Side → ℕ
-border_of hex side =
-    if nat_lt (number_of side) 3 then 3 * index_of hex
+border_of hex side = if nat_lt (number_of side) 3 then 3 * index_of hex
     + number_of side else border_beyond (number_of side - 3) (neighbour_of hex side)
 
 -- the border that is crossed to a side of a hex; none is crossed at a stop

@@ -40,15 +40,13 @@ same_link link other =
 -- the step from one end of a hex to another, by the link that joins the two in that order of its
 -- ends
 abbrev pub step_over : Hex → TrackEnd → TrackEnd → WalkStep
-step_over hex from to =
-    if nat_lt (end_order to) (end_order from) then
+step_over hex from to = if nat_lt (end_order to) (end_order from) then
     record { link = record { hex = hex; a = to; b = from }; turned = true } else
     record { link = record { hex = hex; a = from; b = to }; turned = false }
 
 -- the step from one end of a hex to another, if the position has the link that joins them
 unfoldable pub step_between : Position → Hex → TrackEnd → TrackEnd → Option WalkStep
-step_between position hex from to =
-    let step = step_over hex from to in
+step_between position hex from to = let step = step_over hex from to in
     if list_any (λ link. same_link link step.link) (links_of position hex) then Some step else None
 
 -- A leg leads from where the train is over a border to the next place. It has a step to the border,

@@ -1,4 +1,4 @@
--- The places of a walk, as a run is written out. They are the place where it begins, and then one
+-- The places of a walk, as a run is written in full. They are the place where it begins, and then one
 -- for each border that it crosses, in the order in which the train comes to them. A place is
 -- written with the number of its stop if the train goes by one, and without if it goes by through
 -- track.

@@ -17,7 +17,7 @@ use tables::{Company, Kind, Money};
 /// The first rule that a run breaks, of R3 to R9, which depend on the map state.
 pub type RunFault = RunRule;
 
-/// Rules a run of a company's train of a kind, written out place by place. Returns `Ok` exactly if
+/// Rules a run of a company's train of a kind, given place by place. Returns `Ok` exactly if
 /// the run is legal given the used borders. The value is what it earns, in dollars, and `used`
 /// gains the borders that it crosses and no others. Otherwise the error is the first rule that the
 /// run breaks, and `used` does not change.

@@ -6,7 +6,7 @@ use std::alloc::{AllocError, Global};
 use std::marker::Model;
 use tables::{Amount, Kind};
 
-/// A run that is claimed: a train's kind, and the run, written out.
+/// A run that is claimed: a train's kind, and the run, in full.
 #[derive(Drop)]
 pub struct ClaimedRun {
     pub kind: Kind,

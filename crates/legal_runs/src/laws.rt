@@ -57,13 +57,13 @@ pub fn runs_earn_by_borders()
     ensures { RunsEarnByBorders }
 {}
 
-/// States that each legal run can be written out: 2 to 280 places name it.
+/// States that each legal run can be written in full: 2 to 280 places name it.
 pub fn each_legal_run_is_named()
     ensures { EachLegalRunIsNamed }
 {}
 
 /// States that there is a greatest revenue that a company's trains can earn, whatever is on the
-/// map: some legal set of runs earns it and none earns more. It is under 50,000 dollars.
+/// map: some legal set of runs earns it and none earns more. It is less than 50,000 dollars.
 #[tactic(auto, using(crate::proofs::Greatest::a_greatest_exists))]
 pub fn a_greatest_exists()
     ensures { AGreatestExists }

@@ -1,4 +1,4 @@
-//! A run written out by its places, from the steps of its walk.
+//! A run in full by its places, from the steps of its walk.
 ghost use Rattle.std.specs.Prelude.{◌≡◌, ◌≤◌, length};
 ghost use Rattle.reach.specs.Walk.{entered_at, left_at};
 ghost use Rattle.legal_runs.specs.Written.{number_at, place_at, place_over, places_of};

@@ -7,7 +7,7 @@ use Rattle.map_tables.specs.declared.hex.Hex.TheVariants.{A9}
 use Rattle.map_tables.specs.declared.tiles.TileNo.{TileNo}
 use Rattle.map_tables.specs.declared.tiles.TileNo.TheVariants.{T1}
 use Rattle.map_tables.specs.Hex.{hexes, index_of, same_hex, site_of}
-use Rattle.map_tables.specs.Tile.{tiles, tile_index_of, number_of_tile, tile_numbered}
+use Rattle.map_tables.specs.Tile.{tiles, tile_index_of, number_of_tile, tile_numbered, printed}
 use Rattle.map_tables.specs.Print.{groups, plain_hexes, is_one_of}
 use Rattle.map_tables.specs.Laws.{IsHexListed, IsTileListed}
 use Rattle.map_tables.proofs.HexAt.{hex_at-site}
@@ -39,17 +39,17 @@ pub hexes_told_apart : (a b : Hex) → (same_hex a b ≡ true) ↔ (a ≡ b)
 hexes_told_apart a b = (same_hex-true a b, same_hex-same a b)
 
 tile_below : (tile : TileNo) → ltb (tile_index_of tile) 46 ≡ true
-unfolding tile_index_of tiles number_of_tile
+unfolding tile_index_of tiles number_of_tile printed
 tile_below T1 = refl
 tile_below _ = refl
 
 tile_there : (tile : TileNo) → slice_get tiles (tile_index_of tile) ≡ Some tile
-unfolding tiles tile_index_of number_of_tile
+unfolding tiles tile_index_of number_of_tile printed
 tile_there T1 = refl
 tile_there _ = refl
 
 tile_found : (tile : TileNo) → tile_numbered (number_of_tile tile) ≡ Some tile
-unfolding tiles number_of_tile tile_numbered
+unfolding tiles number_of_tile printed tile_numbered
 tile_found T1 = refl
 tile_found _ = refl
 
@@ -65,7 +65,7 @@ tile_is_listed tile = record {
   found = tile_found tile;
 }
 
-pub one_print : (hex : Hex) → count_by (λ group. is_one_of hex group.hexes) groups ≡ 1
+pub one_print : (hex : Hex) → count_by (λ group. is_one_of hex group.0) groups ≡ 1
 unfolding index_of hexes site_of groups plain_hexes
 one_print A9 = refl
 one_print _ = refl

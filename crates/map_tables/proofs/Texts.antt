@@ -23,12 +23,12 @@ use Rattle.map_tables.specs.Side.{rotation_of, sixths_turned}
 use Rattle.map_tables.specs.Text.{text_of_hex, stop_text, text_of_place, text_of_tile, text_of_rotation, is_digit}
 use Rattle.map_tables.specs.Text.{short_number, hex_of_text, stop_of_text, place_from, place_of_text, tile_of_text}
 use Rattle.map_tables.specs.Text.{rotation_of_text, TextsAreRead}
-use Rattle.map_tables.specs.Tile.{tiles, number_of_tile, tile_numbered}
+use Rattle.map_tables.specs.Tile.{tiles, number_of_tile, tile_numbered, printed}
 use Rattle.map_tables.proofs.HexAt.{hex_at-is, hex_at-site}
 use Rattle.map_tables.proofs.ListedOnce.{tile_is_listed}
 use Rattle.map_tables.proofs.Searches.{found_passes}
 
--- the digit of a number under 10
+-- the digit of a number less than 10
 digit_is : (d : ℕ) → d < 10 → is_digit (48 + d) ≡ true
 digit_is d small = grind (arith, nat_tests)
 
@@ -271,7 +271,7 @@ place_named text place e = place_named_by text (hex_of_text text) place refl e
 
 -- tiles
 number_test : (tile : TileNo) → ltb (number_of_tile tile) 100 ≡ true
-unfolding number_of_tile
+unfolding number_of_tile printed
 number_test T1 = refl
 number_test _ = refl
 

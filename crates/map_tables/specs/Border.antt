@@ -26,13 +26,9 @@ closed_borders = (E7, F8) ∷ (C11, D12) ∷ (C13, D12) ∷ (B16, C17) ∷ []
 abbrev pub joins : Hex → Hex → Hex × Hex → Bool
 joins a b (one, other) = (same_hex one a && same_hex other b) || (same_hex one b && same_hex other a)
 
--- whether the border between two hexes is closed
-abbrev pub is_closed : Hex → Hex → Bool
-is_closed a b = list_any (joins a b) closed_borders
-
 -- the hex at a side of another is its neighbour, unless the border between them is closed
 abbrev pub open_to : Hex → Hex → Option Hex
-open_to hex other = if is_closed hex other then None else Some other
+open_to hex other = if list_any (joins hex other) closed_borders then None else Some other
 
 -- the neighbour at a side of a hex: none off the map, or if the border is closed
 unfoldable pub neighbour_of : Hex → Side → Option Hex

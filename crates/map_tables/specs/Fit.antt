@@ -21,7 +21,7 @@ use Rattle.map_tables.specs.declared.lay.Lay.{Lay}
 use Rattle.map_tables.specs.declared.place.Place.{Place}
 use Rattle.map_tables.specs.declared.place.Stop.{Stop}
 use Rattle.map_tables.specs.declared.print.HexKind.{HexKind}
-use Rattle.map_tables.specs.declared.print.HexKind.TheVariants.{Open, Grey, Red}
+use Rattle.map_tables.specs.declared.print.HexKind.TheVariants.{Open}
 use Rattle.map_tables.specs.declared.side.Side.{Side}
 use Rattle.map_tables.specs.declared.tiles.TileKind.{TileKind}
 use Rattle.map_tables.specs.declared.tiles.TileKind.TheVariants.{Plain, Town, TwoTowns, City, CityB, CitiesNY, CitiesOO}
@@ -43,8 +43,7 @@ place_of_tile_kind CitiesOO = 6
 -- whether a hex takes tiles of a kind
 abbrev pub takes : HexKind → TileKind → Bool
 takes (Open kind) tile = place_of_tile_kind kind == place_of_tile_kind tile
-takes Grey tile = false
-takes Red tile = false
+takes other tile = false
 
 -- whether a tile is of another kind than its hex, or its stops are swapped though there are not two
 unfoldable pub is_wrong_kind : Lay → Bool
@@ -54,8 +53,7 @@ is_wrong_kind lay =
 -- whether tiles are laid on hexes of a kind
 abbrev pub is_open : HexKind → Bool
 is_open (Open kind) = true
-is_open Grey = false
-is_open Red = false
+is_open other = false
 
 -- whether an end is this side
 abbrev pub is_side : Side → TrackEnd → Bool

@@ -54,7 +54,7 @@ TilesAreListedOnce = (length tiles ≡ 46) × ((tile : TileNo) → IsTileListed 
 
 -- each hex is in one group of the prints
 abbrev pub PrintsAreListedOnce : Type 0
-PrintsAreListedOnce = (hex : Hex) → count_by (λ group. is_one_of hex group.hexes) groups ≡ 1
+PrintsAreListedOnce = (hex : Hex) → count_by (λ group. is_one_of hex group.0) groups ≡ 1
 
 -- six turns by a sixth
 abbrev pub SixTurnsAreNone : Type 0

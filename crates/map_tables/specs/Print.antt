@@ -1,6 +1,6 @@
 -- What is printed on the hexes of the map. Each group of hexes with the same print has its kind,
 -- the cost of its terrain, its track, and its stops with their value and the tokens that they take.
-use Rattle.std.specs.Prelude.{ℕ, Bool, false, ◌||◌, if◌then◌else◌, List, [], ◌∷◌, ◌++◌}
+use Rattle.std.specs.Prelude.{ℕ, Bool, false, ◌||◌, List, [], ◌∷◌, ◌++◌, find, option_map, unwrap_or}
 use Rattle.map_tables.specs.declared.hex.Hex.{Hex}
 use Rattle.map_tables.specs.declared.hex.Hex.TheVariants.{
   A9,
@@ -129,73 +129,30 @@ abbrev pub slots_of_kind : TileKind → ℕ
 slots_of_kind Plain = 0
 slots_of_kind Town = 0
 slots_of_kind TwoTowns = 0
-slots_of_kind City = 1
-slots_of_kind CityB = 1
-slots_of_kind CitiesNY = 1
-slots_of_kind CitiesOO = 1
+slots_of_kind other = 1
+
+-- the print of a hex: what its fields say, in their order, with the track put in order
+abbrev print_with : HexKind → ℕ → Colour → ℕ → ℕ → PrintedValue → List TrackSegment → Print
+print_with kind cost colour stops slots value track =
+    record { kind = kind; cost = cost; colour = colour; stops = stops; slots = slots; value = value; track = in_order track }
 
 -- a red area, whose stop takes no token: its value before and from phase 5, and the sides
 abbrev red : ℕ → ℕ → List ℕ → Print
 red before from sides =
-    record {
-      kind = Red;
-      cost = 0;
-      colour = White;
-      stops = 1;
-      slots = 0;
-      value = record { before_phase_five = before; from_phase_five = from };
-      track = in_order (stop_track sides []);
-    }
+    print_with Red 0 White 1 0 (record { before_phase_five = before; from_phase_five = from }) (stop_track sides [])
 
 -- a grey hex: its stops, the tokens that each takes, its value and sides, and track past it
 abbrev grey : ℕ → ℕ → ℕ → List ℕ → List TrackSegment → Print
-grey stops slots value sides track =
-    record {
-      kind = Grey;
-      cost = 0;
-      colour = White;
-      stops = stops;
-      slots = slots;
-      value = always value;
-      track = in_order (stop_track sides [] ++ track);
-    }
+grey stops slots value sides track = print_with Grey 0 White stops slots (always value) (stop_track sides [] ++ track)
 
 -- a hex whose print is a yellow tile with cities: the value of each, and the sides of each
 abbrev yellow : TileKind → ℕ → ℕ → List ℕ → List ℕ → Print
 yellow kind cost value first second =
-    record {
-      kind = Open kind;
-      cost = cost;
-      colour = Yellow;
-      stops = stops_of_kind kind;
-      slots =
-          slots_of_kind kind;
-      value = always value;
-      track = in_order (stop_track first second);
-    }
+    print_with (Open kind) cost Yellow (stops_of_kind kind) (slots_of_kind kind) (always value) (stop_track first second)
 
 -- a hex without track, whose stops are worth nothing until a tile lies
 abbrev pub white : TileKind → ℕ → Print
-white kind cost =
-    record {
-      kind = Open kind;
-      cost = cost;
-      colour = White;
-      stops = stops_of_kind kind;
-      slots =
-          slots_of_kind kind;
-      value = always 0;
-      track = [];
-    }
-
--- the hexes that have a print
-pub record Group : Type 0 where
-  pub hexes : List Hex
-  pub print : Print
-
--- some hexes, and the print that each of them has
-abbrev for_hexes : List Hex → Print → Group
-for_hexes hexes print = record { hexes = hexes; print = print }
+white kind cost = print_with (Open kind) cost White (stops_of_kind kind) (slots_of_kind kind) (always 0) []
 
 -- the plain hexes without cost of terrain
 unfoldable pub plain_hexes : List Hex
@@ -204,44 +161,44 @@ plain_hexes =
     E15 ∷ F8 ∷ F12 ∷ F14 ∷ F18 ∷ G3 ∷ G5 ∷ G9 ∷ G11 ∷ H2 ∷ H6 ∷ H8 ∷ H14 ∷ I3 ∷ I5 ∷ I7 ∷ I9 ∷
     J4 ∷ J6 ∷ J8 ∷ []
 
--- the prints of the map
-unfoldable pub groups : List Group
+-- the prints of the map: some hexes, and the print that each of them has
+unfoldable pub groups : List (List Hex × Print)
 groups =
     -- red areas: the value before and from phase 5, and the sides
-    for_hexes (F2 ∷ []) (red 40 70 (3 ∷ 4 ∷ 5 ∷ [])) ∷
-    for_hexes (J2 ∷ []) (red 30 60 (3 ∷ 4 ∷ [])) ∷
-    for_hexes (I1 ∷ []) (red 30 60 (4 ∷ [])) ∷
-    for_hexes (A11 ∷ []) (red 30 50 (5 ∷ 0 ∷ [])) ∷
-    for_hexes (A9 ∷ []) (red 30 50 (5 ∷ [])) ∷
-    for_hexes (K13 ∷ []) (red 30 40 (2 ∷ 3 ∷ [])) ∷
-    for_hexes (B24 ∷ []) (red 20 30 (1 ∷ 0 ∷ [])) ∷
+    (F2 ∷ [], red 40 70 (3 ∷ 4 ∷ 5 ∷ [])) ∷
+    (J2 ∷ [], red 30 60 (3 ∷ 4 ∷ [])) ∷
+    (I1 ∷ [], red 30 60 (4 ∷ [])) ∷
+    (A11 ∷ [], red 30 50 (5 ∷ 0 ∷ [])) ∷
+    (A9 ∷ [], red 30 50 (5 ∷ [])) ∷
+    (K13 ∷ [], red 30 40 (2 ∷ 3 ∷ [])) ∷
+    (B24 ∷ [], red 20 30 (1 ∷ 0 ∷ [])) ∷
     -- grey: stops, tokens, value, sides, and track past the stop
-    for_hexes (D2 ∷ []) (grey 1 1 20 (5 ∷ 4 ∷ []) []) ∷
-    for_hexes (F6 ∷ []) (grey 1 1 30 (5 ∷ 0 ∷ []) []) ∷
-    for_hexes (E9 ∷ []) (grey 0 0 0 [] (through 2 3 ∷ [])) ∷
-    for_hexes (H12 ∷ []) (grey 1 1 10 (1 ∷ 4 ∷ []) (through 1 4 ∷ [])) ∷
-    for_hexes (D14 ∷ []) (grey 1 1 20 (1 ∷ 4 ∷ 0 ∷ []) []) ∷
-    for_hexes (C15 ∷ []) (grey 1 0 10 (1 ∷ 3 ∷ []) []) ∷
-    for_hexes (K15 ∷ []) (grey 1 1 20 (2 ∷ []) []) ∷
-    for_hexes (A17 ∷ []) (grey 0 0 0 [] (through 0 5 ∷ [])) ∷
-    for_hexes (A19 ∷ []) (grey 1 1 40 (5 ∷ 0 ∷ []) []) ∷
-    for_hexes (I19 ∷ F24 ∷ []) (grey 1 0 10 (1 ∷ 2 ∷ []) []) ∷
-    for_hexes (D24 ∷ []) (grey 0 0 0 [] (through 1 0 ∷ [])) ∷
+    (D2 ∷ [], grey 1 1 20 (5 ∷ 4 ∷ []) []) ∷
+    (F6 ∷ [], grey 1 1 30 (5 ∷ 0 ∷ []) []) ∷
+    (E9 ∷ [], grey 0 0 0 [] (through 2 3 ∷ [])) ∷
+    (H12 ∷ [], grey 1 1 10 (1 ∷ 4 ∷ []) (through 1 4 ∷ [])) ∷
+    (D14 ∷ [], grey 1 1 20 (1 ∷ 4 ∷ 0 ∷ []) []) ∷
+    (C15 ∷ [], grey 1 0 10 (1 ∷ 3 ∷ []) []) ∷
+    (K15 ∷ [], grey 1 1 20 (2 ∷ []) []) ∷
+    (A17 ∷ [], grey 0 0 0 [] (through 0 5 ∷ [])) ∷
+    (A19 ∷ [], grey 1 1 40 (5 ∷ 0 ∷ []) []) ∷
+    (I19 ∷ F24 ∷ [], grey 1 0 10 (1 ∷ 2 ∷ []) []) ∷
+    (D24 ∷ [], grey 0 0 0 [] (through 1 0 ∷ [])) ∷
     -- yellow print: kind, cost of terrain, value of each city, and the sides of each
-    for_hexes (I15 ∷ []) (yellow CityB 0 30 (4 ∷ 0 ∷ []) []) ∷
-    for_hexes (E23 ∷ []) (yellow CityB 0 30 (3 ∷ 5 ∷ []) []) ∷
-    for_hexes (G19 ∷ []) (yellow CitiesNY 80 40 (3 ∷ []) (0 ∷ [])) ∷
-    for_hexes (E5 ∷ D10 ∷ []) (yellow CitiesOO 80 0 [] []) ∷
-    for_hexes (E11 ∷ H18 ∷ []) (yellow CitiesOO 0 0 [] []) ∷
+    (I15 ∷ [], yellow CityB 0 30 (4 ∷ 0 ∷ []) []) ∷
+    (E23 ∷ [], yellow CityB 0 30 (3 ∷ 5 ∷ []) []) ∷
+    (G19 ∷ [], yellow CitiesNY 80 40 (3 ∷ []) (0 ∷ [])) ∷
+    (E5 ∷ D10 ∷ [], yellow CitiesOO 80 0 [] []) ∷
+    (E11 ∷ H18 ∷ [], yellow CitiesOO 0 0 [] []) ∷
     -- white, without track: the kind, and the cost of terrain
-    for_hexes (E19 ∷ H4 ∷ B10 ∷ H10 ∷ H16 ∷ B16 ∷ []) (white City 0) ∷
-    for_hexes (F4 ∷ J14 ∷ F22 ∷ []) (white City 80) ∷
-    for_hexes (F16 ∷ []) (white City 120) ∷
-    for_hexes (E7 ∷ B20 ∷ D4 ∷ F10 ∷ []) (white Town 0) ∷
-    for_hexes (G7 ∷ G17 ∷ F20 ∷ []) (white TwoTowns 0) ∷
-    for_hexes plain_hexes (white Plain 0) ∷
-    for_hexes (G15 ∷ C17 ∷ C21 ∷ D22 ∷ E17 ∷ E21 ∷ G13 ∷ I11 ∷ J10 ∷ J12 ∷ []) (white Plain 120) ∷
-    for_hexes (D6 ∷ I17 ∷ B18 ∷ C19 ∷ []) (white Plain 80) ∷
+    (E19 ∷ H4 ∷ B10 ∷ H10 ∷ H16 ∷ B16 ∷ [], white City 0) ∷
+    (F4 ∷ J14 ∷ F22 ∷ [], white City 80) ∷
+    (F16 ∷ [], white City 120) ∷
+    (E7 ∷ B20 ∷ D4 ∷ F10 ∷ [], white Town 0) ∷
+    (G7 ∷ G17 ∷ F20 ∷ [], white TwoTowns 0) ∷
+    (plain_hexes, white Plain 0) ∷
+    (G15 ∷ C17 ∷ C21 ∷ D22 ∷ E17 ∷ E21 ∷ G13 ∷ I11 ∷ J10 ∷ J12 ∷ [], white Plain 120) ∷
+    (D6 ∷ I17 ∷ B18 ∷ C19 ∷ [], white Plain 80) ∷
     []
 
 -- whether a hex is among some
@@ -249,14 +206,11 @@ abbrev pub is_one_of : Hex → List Hex → Bool
 is_one_of hex [] = false
 is_one_of hex (h ∷ hs) = same_hex h hex || is_one_of hex hs
 
--- the printed hex: that of the group that it is in
-abbrev pub print_among : List Group → Hex → Print
-print_among [] hex = white Plain 0
-print_among (g ∷ gs) hex = if is_one_of hex g.hexes then g.print else print_among gs hex
-
--- the print of a hex
+-- the print of a hex: that of the group that it is in
 unfoldable pub print_of : Hex → Print
-print_of hex = print_among groups hex
+print_of hex =
+    unwrap_or (option_map (λ (group : List Hex × Print). group.1)
+    (find (λ (group : List Hex × Print). is_one_of hex group.0) groups)) (white Plain 0)
 
 -- the links that the print gives a hex
 unfoldable pub printed_links_of : Hex → List Link

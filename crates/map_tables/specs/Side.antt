@@ -18,19 +18,15 @@ number_of NorthEast = 3
 number_of East = 4
 number_of SouthEast = 5
 
--- the next side, clockwise
-abbrev pub next_side : Side → Side
-next_side SouthWest = West
-next_side West = NorthWest
-next_side NorthWest = NorthEast
-next_side NorthEast = East
-next_side East = SouthEast
-next_side SouthEast = SouthWest
-
--- the side that comes this many sides later
+-- the side that comes this many sides later, clockwise
 abbrev pub sides_on : ℕ → Side → Side
 sides_on zero side = side
-sides_on (suc n) side = next_side (sides_on n side)
+sides_on (suc n) SouthWest = sides_on n West
+sides_on (suc n) West = sides_on n NorthWest
+sides_on (suc n) NorthWest = sides_on n NorthEast
+sides_on (suc n) NorthEast = sides_on n East
+sides_on (suc n) East = sides_on n SouthEast
+sides_on (suc n) SouthEast = sides_on n SouthWest
 
 -- the side of this number, from 0
 abbrev pub side : ℕ → Side

@@ -38,7 +38,7 @@ text_of_rotation rotation = decimal (sixths_turned rotation)
 abbrev pub is_digit : ℕ → Bool
 is_digit byte = nat_le 48 byte && nat_le byte 57
 
--- the number under 100 of one or two digits, without leading zeros
+-- the number less than 100 of one or two digits, without leading zeros
 abbrev pub short_number : List ℕ → Option ℕ
 short_number (ones ∷ []) = if is_digit ones then Some (ones - 48) else None
 short_number (tens ∷ ones ∷ []) =

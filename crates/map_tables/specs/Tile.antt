@@ -66,54 +66,92 @@ tiles =
     T26 ∷ T27 ∷ T28 ∷ T29 ∷ T39 ∷ T40 ∷ T41 ∷ T42 ∷ T43 ∷ T44 ∷ T45 ∷ T46 ∷ T47 ∷ T53 ∷ T54 ∷
     T55 ∷ T56 ∷ T57 ∷ T58 ∷ T59 ∷ T61 ∷ T62 ∷ T63 ∷ T64 ∷ T65 ∷ T66 ∷ T67 ∷ T68 ∷ T69 ∷ T70 ∷ []
 
+-- how many stops a tile or a hex of a kind has
+abbrev pub stops_of_kind : TileKind → ℕ
+stops_of_kind Plain = 0
+stops_of_kind TwoTowns = 2
+stops_of_kind CitiesNY = 2
+stops_of_kind CitiesOO = 2
+stops_of_kind other = 1
+
+-- an entry of the manifest: how many tiles, the colour, the kind, the value of each stop, and how
+-- many tokens a city takes
+abbrev pub entry : ℕ → Colour → TileKind → ℕ → ℕ → TileEntry
+entry count colour kind value slots =
+    record { count = count; colour = colour; kind = kind; value = value; slots = slots }
+
+-- a tile's number and entry, with its track
+pub record PrintedTile : Type 0 where
+  pub number : ℕ
+  pub entry : TileEntry
+  pub track : List TrackSegment
+
+-- track alone: number, colour and count, and the track
+abbrev plain : ℕ → Colour → ℕ → List TrackSegment → PrintedTile
+plain number colour count track =
+    record { number = number; entry = entry count colour Plain 0 0; track = in_order track }
+
+-- two stops: number, colour, kind, count, value and slots of each, and the sides of each
+abbrev two_stops : ℕ → Colour → TileKind → ℕ → ℕ → ℕ → List ℕ → List ℕ → PrintedTile
+two_stops number colour kind count value slots first second =
+    record { number = number; entry = entry count colour kind value slots; track = in_order (stop_track first second) }
+
+-- one stop: number, colour, kind, count, value, slots and sides
+abbrev one_stop : ℕ → Colour → TileKind → ℕ → ℕ → ℕ → List ℕ → PrintedTile
+one_stop number colour kind count value slots sides = two_stops number colour kind count value slots sides []
+
+-- the manifest: for each tile its number, and then what the definitions before this say
+unfoldable pub printed : TileNo → PrintedTile
+printed T7 = plain 7 Yellow 4 (through 0 1 ∷ [])
+printed T8 = plain 8 Yellow 8 (through 0 2 ∷ [])
+printed T9 = plain 9 Yellow 7 (through 0 3 ∷ [])
+printed T16 = plain 16 Green 1 (through 0 2 ∷ through 1 3 ∷ [])
+printed T18 = plain 18 Green 1 (through 0 3 ∷ through 1 2 ∷ [])
+printed T19 = plain 19 Green 1 (through 0 3 ∷ through 2 4 ∷ [])
+printed T20 = plain 20 Green 1 (through 0 3 ∷ through 1 4 ∷ [])
+printed T23 = plain 23 Green 3 (through 0 3 ∷ through 0 4 ∷ [])
+printed T24 = plain 24 Green 3 (through 0 3 ∷ through 0 2 ∷ [])
+printed T25 = plain 25 Green 1 (through 0 2 ∷ through 0 4 ∷ [])
+printed T26 = plain 26 Green 1 (through 0 3 ∷ through 0 5 ∷ [])
+printed T27 = plain 27 Green 1 (through 0 3 ∷ through 0 1 ∷ [])
+printed T28 = plain 28 Green 1 (through 0 4 ∷ through 0 5 ∷ [])
+printed T29 = plain 29 Green 1 (through 0 2 ∷ through 0 1 ∷ [])
+printed T39 = plain 39 Brown 1 (through 0 2 ∷ through 0 1 ∷ through 1 2 ∷ [])
+printed T40 = plain 40 Brown 1 (through 0 2 ∷ through 2 4 ∷ through 0 4 ∷ [])
+printed T41 = plain 41 Brown 2 (through 0 3 ∷ through 0 1 ∷ through 1 3 ∷ [])
+printed T42 = plain 42 Brown 2 (through 0 3 ∷ through 3 5 ∷ through 0 5 ∷ [])
+printed T43 = plain 43 Brown 2 (through 0 3 ∷ through 0 2 ∷ through 1 3 ∷ through 1 2 ∷ [])
+printed T44 = plain 44 Brown 1 (through 0 3 ∷ through 1 4 ∷ through 0 1 ∷ through 3 4 ∷ [])
+printed T45 = plain 45 Brown 2 (through 0 3 ∷ through 2 4 ∷ through 0 4 ∷ through 2 3 ∷ [])
+printed T46 = plain 46 Brown 2 (through 0 3 ∷ through 2 4 ∷ through 3 4 ∷ through 0 2 ∷ [])
+printed T47 = plain 47 Brown 1 (through 0 3 ∷ through 1 4 ∷ through 1 3 ∷ through 0 4 ∷ [])
+printed T70 = plain 70 Brown 1 (through 0 1 ∷ through 0 2 ∷ through 1 3 ∷ through 2 3 ∷ [])
+printed T3 = one_stop 3 Yellow Town 2 10 0 (0 ∷ 1 ∷ [])
+printed T58 = one_stop 58 Yellow Town 2 10 0 (0 ∷ 2 ∷ [])
+printed T4 = one_stop 4 Yellow Town 2 10 0 (0 ∷ 3 ∷ [])
+printed T1 = two_stops 1 Yellow TwoTowns 1 10 0 (1 ∷ 3 ∷ []) (0 ∷ 4 ∷ [])
+printed T2 = two_stops 2 Yellow TwoTowns 1 10 0 (0 ∷ 3 ∷ []) (1 ∷ 2 ∷ [])
+printed T55 = two_stops 55 Yellow TwoTowns 1 10 0 (0 ∷ 3 ∷ []) (1 ∷ 4 ∷ [])
+printed T56 = two_stops 56 Yellow TwoTowns 1 10 0 (0 ∷ 2 ∷ []) (1 ∷ 3 ∷ [])
+printed T69 = two_stops 69 Yellow TwoTowns 1 10 0 (0 ∷ 3 ∷ []) (2 ∷ 4 ∷ [])
+printed T57 = one_stop 57 Yellow City 4 20 1 (0 ∷ 3 ∷ [])
+printed T14 = one_stop 14 Green City 3 30 2 (0 ∷ 1 ∷ 3 ∷ 4 ∷ [])
+printed T15 = one_stop 15 Green City 2 30 2 (0 ∷ 1 ∷ 2 ∷ 3 ∷ [])
+printed T53 = one_stop 53 Green CityB 2 50 1 (0 ∷ 2 ∷ 4 ∷ [])
+printed T63 = one_stop 63 Brown City 3 40 2 (0 ∷ 1 ∷ 2 ∷ 3 ∷ 4 ∷ 5 ∷ [])
+printed T61 = one_stop 61 Brown CityB 2 60 1 (0 ∷ 1 ∷ 3 ∷ 5 ∷ [])
+printed T54 = two_stops 54 Green CitiesNY 1 60 1 (0 ∷ 1 ∷ []) (2 ∷ 3 ∷ [])
+printed T59 = two_stops 59 Green CitiesOO 2 40 1 (0 ∷ []) (2 ∷ [])
+printed T62 = two_stops 62 Brown CitiesNY 1 80 2 (0 ∷ 1 ∷ []) (2 ∷ 3 ∷ [])
+printed T64 = two_stops 64 Brown CitiesOO 1 50 1 (0 ∷ 2 ∷ []) (3 ∷ 4 ∷ [])
+printed T65 = two_stops 65 Brown CitiesOO 1 50 1 (0 ∷ 4 ∷ []) (2 ∷ 3 ∷ [])
+printed T66 = two_stops 66 Brown CitiesOO 1 50 1 (0 ∷ 3 ∷ []) (1 ∷ 2 ∷ [])
+printed T67 = two_stops 67 Brown CitiesOO 1 50 1 (0 ∷ 3 ∷ []) (2 ∷ 4 ∷ [])
+printed T68 = two_stops 68 Brown CitiesOO 1 50 1 (0 ∷ 3 ∷ []) (1 ∷ 4 ∷ [])
+
 -- the number of a tile
 unfoldable pub number_of_tile : TileNo → ℕ
-number_of_tile T1 = 1
-number_of_tile T2 = 2
-number_of_tile T3 = 3
-number_of_tile T4 = 4
-number_of_tile T7 = 7
-number_of_tile T8 = 8
-number_of_tile T9 = 9
-number_of_tile T14 = 14
-number_of_tile T15 = 15
-number_of_tile T16 = 16
-number_of_tile T18 = 18
-number_of_tile T19 = 19
-number_of_tile T20 = 20
-number_of_tile T23 = 23
-number_of_tile T24 = 24
-number_of_tile T25 = 25
-number_of_tile T26 = 26
-number_of_tile T27 = 27
-number_of_tile T28 = 28
-number_of_tile T29 = 29
-number_of_tile T39 = 39
-number_of_tile T40 = 40
-number_of_tile T41 = 41
-number_of_tile T42 = 42
-number_of_tile T43 = 43
-number_of_tile T44 = 44
-number_of_tile T45 = 45
-number_of_tile T46 = 46
-number_of_tile T47 = 47
-number_of_tile T53 = 53
-number_of_tile T54 = 54
-number_of_tile T55 = 55
-number_of_tile T56 = 56
-number_of_tile T57 = 57
-number_of_tile T58 = 58
-number_of_tile T59 = 59
-number_of_tile T61 = 61
-number_of_tile T62 = 62
-number_of_tile T63 = 63
-number_of_tile T64 = 64
-number_of_tile T65 = 65
-number_of_tile T66 = 66
-number_of_tile T67 = 67
-number_of_tile T68 = 68
-number_of_tile T69 = 69
-number_of_tile T70 = 70
+number_of_tile tile = (printed tile).number
 
 -- the place of a tile in the order of the tiles, from 0
 unfoldable pub tile_index_of : TileNo → ℕ
@@ -122,89 +160,6 @@ tile_index_of tile = position_or_len (λ other. number_of_tile tile == number_of
 -- the tile of a number, if there is one
 unfoldable pub tile_numbered : ℕ → Option TileNo
 tile_numbered number = find (λ tile. number_of_tile tile == number) tiles
-
--- how many stops a tile or a hex of a kind has
-abbrev pub stops_of_kind : TileKind → ℕ
-stops_of_kind Plain = 0
-stops_of_kind Town = 1
-stops_of_kind TwoTowns = 2
-stops_of_kind City = 1
-stops_of_kind CityB = 1
-stops_of_kind CitiesNY = 2
-stops_of_kind CitiesOO = 2
-
--- an entry of the manifest: how many tiles, the colour, the kind, the value of each stop, and how
--- many tokens a city takes
-abbrev pub entry : ℕ → Colour → TileKind → ℕ → ℕ → TileEntry
-entry count colour kind value slots =
-    record { count = count; colour = colour; kind = kind; value = value; slots = slots }
-
--- an entry with the tile's track
-pub record PrintedTile : Type 0 where
-  pub entry : TileEntry
-  pub track : List TrackSegment
-
--- track alone
-abbrev plain : Colour → ℕ → List TrackSegment → PrintedTile
-plain colour count track = record { entry = entry count colour Plain 0 0; track = in_order track }
-
--- two stops: colour, kind, count, value and slots of each, and the sides of each
-abbrev two_stops : Colour → TileKind → ℕ → ℕ → ℕ → List ℕ → List ℕ → PrintedTile
-two_stops colour kind count value slots first second =
-    record { entry = entry count colour kind value slots; track = in_order (stop_track first second) }
-
--- one stop: colour, kind, count, value, slots and sides
-abbrev one_stop : Colour → TileKind → ℕ → ℕ → ℕ → List ℕ → PrintedTile
-one_stop colour kind count value slots sides = two_stops colour kind count value slots sides []
-
--- the manifest
-unfoldable pub printed : TileNo → PrintedTile
-printed T7 = plain Yellow 4 (through 0 1 ∷ [])
-printed T8 = plain Yellow 8 (through 0 2 ∷ [])
-printed T9 = plain Yellow 7 (through 0 3 ∷ [])
-printed T16 = plain Green 1 (through 0 2 ∷ through 1 3 ∷ [])
-printed T18 = plain Green 1 (through 0 3 ∷ through 1 2 ∷ [])
-printed T19 = plain Green 1 (through 0 3 ∷ through 2 4 ∷ [])
-printed T20 = plain Green 1 (through 0 3 ∷ through 1 4 ∷ [])
-printed T23 = plain Green 3 (through 0 3 ∷ through 0 4 ∷ [])
-printed T24 = plain Green 3 (through 0 3 ∷ through 0 2 ∷ [])
-printed T25 = plain Green 1 (through 0 2 ∷ through 0 4 ∷ [])
-printed T26 = plain Green 1 (through 0 3 ∷ through 0 5 ∷ [])
-printed T27 = plain Green 1 (through 0 3 ∷ through 0 1 ∷ [])
-printed T28 = plain Green 1 (through 0 4 ∷ through 0 5 ∷ [])
-printed T29 = plain Green 1 (through 0 2 ∷ through 0 1 ∷ [])
-printed T39 = plain Brown 1 (through 0 2 ∷ through 0 1 ∷ through 1 2 ∷ [])
-printed T40 = plain Brown 1 (through 0 2 ∷ through 2 4 ∷ through 0 4 ∷ [])
-printed T41 = plain Brown 2 (through 0 3 ∷ through 0 1 ∷ through 1 3 ∷ [])
-printed T42 = plain Brown 2 (through 0 3 ∷ through 3 5 ∷ through 0 5 ∷ [])
-printed T43 = plain Brown 2 (through 0 3 ∷ through 0 2 ∷ through 1 3 ∷ through 1 2 ∷ [])
-printed T44 = plain Brown 1 (through 0 3 ∷ through 1 4 ∷ through 0 1 ∷ through 3 4 ∷ [])
-printed T45 = plain Brown 2 (through 0 3 ∷ through 2 4 ∷ through 0 4 ∷ through 2 3 ∷ [])
-printed T46 = plain Brown 2 (through 0 3 ∷ through 2 4 ∷ through 3 4 ∷ through 0 2 ∷ [])
-printed T47 = plain Brown 1 (through 0 3 ∷ through 1 4 ∷ through 1 3 ∷ through 0 4 ∷ [])
-printed T70 = plain Brown 1 (through 0 1 ∷ through 0 2 ∷ through 1 3 ∷ through 2 3 ∷ [])
-printed T3 = one_stop Yellow Town 2 10 0 (0 ∷ 1 ∷ [])
-printed T58 = one_stop Yellow Town 2 10 0 (0 ∷ 2 ∷ [])
-printed T4 = one_stop Yellow Town 2 10 0 (0 ∷ 3 ∷ [])
-printed T1 = two_stops Yellow TwoTowns 1 10 0 (1 ∷ 3 ∷ []) (0 ∷ 4 ∷ [])
-printed T2 = two_stops Yellow TwoTowns 1 10 0 (0 ∷ 3 ∷ []) (1 ∷ 2 ∷ [])
-printed T55 = two_stops Yellow TwoTowns 1 10 0 (0 ∷ 3 ∷ []) (1 ∷ 4 ∷ [])
-printed T56 = two_stops Yellow TwoTowns 1 10 0 (0 ∷ 2 ∷ []) (1 ∷ 3 ∷ [])
-printed T69 = two_stops Yellow TwoTowns 1 10 0 (0 ∷ 3 ∷ []) (2 ∷ 4 ∷ [])
-printed T57 = one_stop Yellow City 4 20 1 (0 ∷ 3 ∷ [])
-printed T14 = one_stop Green City 3 30 2 (0 ∷ 1 ∷ 3 ∷ 4 ∷ [])
-printed T15 = one_stop Green City 2 30 2 (0 ∷ 1 ∷ 2 ∷ 3 ∷ [])
-printed T53 = one_stop Green CityB 2 50 1 (0 ∷ 2 ∷ 4 ∷ [])
-printed T63 = one_stop Brown City 3 40 2 (0 ∷ 1 ∷ 2 ∷ 3 ∷ 4 ∷ 5 ∷ [])
-printed T61 = one_stop Brown CityB 2 60 1 (0 ∷ 1 ∷ 3 ∷ 5 ∷ [])
-printed T54 = two_stops Green CitiesNY 1 60 1 (0 ∷ 1 ∷ []) (2 ∷ 3 ∷ [])
-printed T59 = two_stops Green CitiesOO 2 40 1 (0 ∷ []) (2 ∷ [])
-printed T62 = two_stops Brown CitiesNY 1 80 2 (0 ∷ 1 ∷ []) (2 ∷ 3 ∷ [])
-printed T64 = two_stops Brown CitiesOO 1 50 1 (0 ∷ 2 ∷ []) (3 ∷ 4 ∷ [])
-printed T65 = two_stops Brown CitiesOO 1 50 1 (0 ∷ 4 ∷ []) (2 ∷ 3 ∷ [])
-printed T66 = two_stops Brown CitiesOO 1 50 1 (0 ∷ 3 ∷ []) (1 ∷ 2 ∷ [])
-printed T67 = two_stops Brown CitiesOO 1 50 1 (0 ∷ 3 ∷ []) (2 ∷ 4 ∷ [])
-printed T68 = two_stops Brown CitiesOO 1 50 1 (0 ∷ 3 ∷ []) (1 ∷ 4 ∷ [])
 
 -- the entry of a tile
 abbrev pub entry_of : TileNo → TileEntry

@@ -135,7 +135,7 @@ fn short_number(text: &[u8]) -> Option<u8>
     }
 }
 
-/// Adds the digits of a number under 100.
+/// Adds the digits of a number less than 100.
 fn push_number(text: &mut PlaceText, number: u8)
     requires under { number < 100 }
     requires room { length text.old.items ≤ 3 }

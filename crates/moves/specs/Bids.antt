@@ -1,5 +1,5 @@
 -- The least bid on a private that is not too low: 5 over the face and over each earlier bid. No bid
--- names over 4,294,967,295 dollars.
+-- names more than 4,294,967,295 dollars.
 use Rattle.std.specs.Prelude.{◌≡◌, ◌≤◌, ℕ, ◌+◌, min, max, false, List, Option, Some, None}
 use Rattle.events.specs.declared.event.Event.{Event}
 use Rattle.order_grammar.specs.declared.order.Order.TheVariants.{Play}

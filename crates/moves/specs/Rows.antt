@@ -1,5 +1,5 @@
 -- What a row says: an order, and what becomes of it where it stands. It is obeyed at a price, or
--- refused by the first rule that it breaks. What a company buys of a player or of another company
+-- refused by the first rule that it breaks. What a company buys from a player or another company
 -- needs a consent. If that is all it lacks, the row names who is to consent, and to what.
 use Rattle.std.specs.Prelude.{List, [], if◌then◌else◌, Bool, Option, Some, None, ℤ}
 use Rattle.events.specs.declared.ruling.Refusal.{Refusal}

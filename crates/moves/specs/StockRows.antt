@@ -53,7 +53,7 @@ orders_of_sale events seat company shares =
 abbrev pub sales_of : List Event → Seat → Company → List PlayOrder
 sales_of events seat company = flat_map (orders_of_sale events seat company) numbers
 
--- to buy of it
+-- to buy from it
 abbrev pub purchases_of : Company → List PlayOrder
 purchases_of company = starts_of company ++ shares_from company
 

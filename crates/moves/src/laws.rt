@@ -66,8 +66,8 @@ pub fn company_rows_are_ruled()
 {}
 
 /// Three kinds of orders without rows are refused: to sell more shares than a seat has, to start a
-/// company at a sum that is not a par value, and to buy a private for under half or over twice its
-/// face value.
+/// company at a sum that is not a par value, and to buy a private for less than half or more than
+/// twice its face value.
 pub fn beyond_the_rows_is_refused()
     ensures sales { SalesAreOfWhatIsHeld }
     ensures starts { StartsAreAtParValues }

@@ -75,7 +75,7 @@ any_number P each =
       ]
     ]
 
--- each end of a hex has a number under 744
+-- each end of a hex has a number less than 744
 number_low : (hex : Hex) (end : TrackEnd) → number_at hex end < 744
 number_low hex (AtSide side) = omega (arith, index_low hex, side_low side)
 number_low hex (AtStop number) =

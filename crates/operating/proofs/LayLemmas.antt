@@ -41,7 +41,7 @@ use Rattle.tables.specs.declared.seat.Seat.{Seat}
 use Rattle.totals.specs.LookBack.{Game, cash_of, with_event}
 use Rattle.totals.specs.Operating.{lays_of}
 
--- no terrain costs over 120
+-- no terrain costs more than 120
 terrain_test : (hex : Hex) → leb (print_of hex).cost 120 ≡ true
 unfolding index_of hexes site_of groups plain_hexes print_of
 terrain_test A9 = refl

@@ -1,5 +1,5 @@
 -- Where no train has run in a turn, none is set down as run: a run is counted, and what is counted
--- is over 0.
+-- is more than 0.
 use Rattle.std.proofs.Common.{◌≡◌, ℕ, zero, suc, ◌<◌, Bool, true, false, not, ◌||◌, inl, inr, List, [], ◌∷◌, Option}
 use Rattle.std.proofs.Common.{Some, None, Result, Ok, Err, ℤ, pos, ◌≤ℤ◌, ◌<ℤ◌, ◌+ℤ◌, length, get_or, set, refl, sym}
 use Rattle.std.proofs.Common.{subst, ◌∙◌, arith, get_or-set_other, length-set}
@@ -39,11 +39,11 @@ use Rattle.tables.specs.declared.rolling_stock.Kind.TheVariants.{Two, Three, Fou
 pub kind_low : (kind : Kind) → index_of_kind kind < 6
 kind_low kind = grind arith
 
--- a count is over 0
+-- a count is more than 0
 abbrev is_some_run : ℤ → Bool
 is_some_run count = lt_z (pos 0) count
 
--- one of some counts is over 0 once one is set so
+-- one of some counts is more than 0 once one is set so
 any_set : (counts : List ℤ) (at : ℕ) (count : ℤ) → at < length counts → pos 0 <ℤ count
     → list_any is_some_run (set counts at count) ≡ true
 any_set [] at count low over = absurd (omega arith)
@@ -55,7 +55,7 @@ any_set (first ∷ counts) (suc at) count low over =
     second true b is = refl
     second false b is = is
 
--- none is under 0 once one is set that is not
+-- none is less than 0 once one is set that is not
 least_set :
     (counts : List ℤ) (at other : ℕ) (count : ℤ) → at < length counts → pos 0 ≤ℤ count
     → pos 0 ≤ℤ get_or counts other (pos 0) →
@@ -71,7 +71,7 @@ abbrev some_ran : Bool → Runs → Bool
 some_ran best runs = best || list_any is_some_run runs.trains
 
 -- What is kept of the runs in a turn, whether or not the best has been run. It is a count for each
--- kind, none under 0, and nothing if no train has run.
+-- kind, none less than 0, and nothing if no train has run.
 pub record AreKept (best : Bool) (runs : Runs) : Type 0 where
   pub for_each : length runs.trains ≡ 6
   pub least : (kind : Kind) → pos 0 ≤ℤ has_run runs kind

@@ -17,6 +17,5 @@ has_home_token events company = has_token (tokens_of events) (home_of company) c
 
 -- with HOME, if none lies there
 abbrev pub with_home : Game → Company → Game
-with_home game company =
-    if has_home_token game.events company then game else with_event game
+with_home game company = if has_home_token game.events company then game else with_event game
     (event.Home company (place_of (home_of company)))

@@ -28,8 +28,7 @@ after_lay game company lay cost = with_event game (event.Laid company lay cost)
 
 -- after a lay in this line was obeyed at this cost, or refused by this rule
 abbrev pub lay_answered : Operator → TurnState → Numbered → Lay → Result ℤ LayRule → TurnState
-lay_answered by turn line lay (Ok cost) =
-    turn_state
+lay_answered by turn line lay (Ok cost) = turn_state
     (after_lay (line_recorded by turn line (Obeyed line.condition (order.Play (play.Lay lay)))).game by.company lay
     (unsigned_abs cost)) (lay_done (lays_of turn.game.events) (asker_of turn.game by.company turn.progress) lay
     turn.progress)

@@ -1,5 +1,5 @@
 -- PAY and WITHHOLD: a company pays out or withholds what its trains earned in its turn. Either
--- needs a turn that is not past its pay, and to pay needs a revenue over 0; the turn is then past
+-- needs a turn that is not past its pay, and to pay needs a revenue more than 0; the turn is then past
 -- it. If it withholds, the bank pays the company all of it, and its token on the chart moves left.
 -- A company whose turn is not past its pay withholds by itself before it buys a train, and when its
 -- orders end.

@@ -19,11 +19,10 @@ at_start = record { pointer = step.Lay; lay_used = false; dh_laid = false; best_
 -- once a tile is laid: CS's lay leaves the lay of the turn as it is, and DH's is remembered for its
 -- token
 abbrev pub lay_done : List Lay → Asker → Lay → Progress → Progress
-lay_done lays asker lay progress =
-    record progress {
-      lay_used = progress.lay_used || not (is_cs_lay lays asker lay.hex);
-      dh_laid = progress.dh_laid || is_dh_lay asker lay;
-    }
+lay_done lays asker lay progress = record progress {
+  lay_used = progress.lay_used || not (is_cs_lay lays asker lay.hex);
+  dh_laid = progress.dh_laid || is_dh_lay asker lay;
+}
 
 -- once a token is placed
 abbrev pub token_done : Progress → Progress

@@ -39,8 +39,7 @@ have_all_run game company progress kind =
 
 -- the rules of the turn
 abbrev pub rules_of_turn : Game → Company → Progress → Kind → List (Rule RunRule)
-rules_of_turn game company progress kind =
-    tested_run_rule run_rule.StepUsed (is_past_runs progress)
+rules_of_turn game company progress kind = tested_run_rule run_rule.StepUsed (is_past_runs progress)
     ∷ tested_run_rule run_rule.NoTrain (have_all_run game company progress kind) ∷ []
 
 -- what a run over a position does, with the borders used that are marked so: what it earns, and the
@@ -68,8 +67,7 @@ ran_unless_fault position company kind used run =
 
 -- the first rule that a run of a train of a kind breaks: those of the turn are before those of runs
 abbrev pub run_judgement : TurnState → Company → Kind → List Place → Option RunRule
-run_judgement turn company kind run =
-    option_or (first_broken (rules_of_turn turn.game company turn.progress kind))
+run_judgement turn company kind run = option_or (first_broken (rules_of_turn turn.game company turn.progress kind))
     (broken_by (position_now turn.game.events) company kind turn.progress.runs.borders run)
 
 -- what a run of a train of a kind does, or the first rule that it breaks

@@ -43,8 +43,7 @@ has_none_to_run events company progress = not (has_trains events company) || has
 
 -- the rules of a RUN BEST
 abbrev pub rules_of_best : Game → Company → Progress → List (Rule RunRule)
-rules_of_best game company progress =
-    tested_run_rule run_rule.StepUsed (is_past_runs progress)
+rules_of_best game company progress = tested_run_rule run_rule.StepUsed (is_past_runs progress)
     ∷ tested_run_rule run_rule.NoTrain (has_none_to_run game.events company progress) ∷ []
 
 -- the first one that is broken

@@ -26,8 +26,7 @@ after_token game company place cost = with_event game (event.Token company place
 
 -- after a token in this line was obeyed at this cost, or refused by this rule
 abbrev pub token_answered : Operator → TurnState → Numbered → Place → Result ℤ TokenRule → TurnState
-token_answered by turn line place (Ok cost) =
-    turn_state
+token_answered by turn line place (Ok cost) = turn_state
     (after_token (line_recorded by turn line (Obeyed line.condition (order.Play (play.Token place)))).game by.company place
     (unsigned_abs cost)) (token_done turn.progress)
 token_answered by turn line place (Err rule) =

@@ -18,8 +18,7 @@ use Rattle.tables.specs.declared.rolling_stock.Kind.{Kind}
 
 -- after a TRAIN in this line that orders this purchase, with the rule that refuses it, if one does
 abbrev pub train_ruled : Operator → TurnState → Numbered → Order → TrainPurchase → Option TrainRule → TurnState
-train_ruled by turn line order purchase broken =
-    ruled by turn line order (option_map refusal.Train broken)
+train_ruled by turn line order purchase broken = ruled by turn line order (option_map refusal.Train broken)
     (λ (after : TurnState). turn_state (after_train after.game by.company purchase) after.progress)
 
 -- after a TRAIN in this line

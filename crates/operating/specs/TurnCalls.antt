@@ -33,14 +33,13 @@ use Rattle.tables.specs.declared.seat.Seat.{Seat}
 
 -- the call for the best runs of a company after these events, and its result
 abbrev pub asked : Company → Round → List Event → Result ℤ RunnerFault → Call
-asked company round events answer =
-    record {
-      position = position_now events;
-      round = round;
-      company = company;
-      trains = trains_now events company;
-      answer = answer;
-    }
+asked company round events answer = record {
+  position = position_now events;
+  round = round;
+  company = company;
+  trains = trains_now events company;
+  answer = answer;
+}
 
 -- the runner is called for the best runs of a company, and returns the greatest revenue or why it
 -- does not; or allocation fails before
@@ -57,8 +56,7 @@ IsCredited by turn line revenue new = new ≡ best_earned by turn line revenue
 
 -- the course of a RUN BEST in this line, with the rule that refuses it, if one does
 abbrev pub BestCalls : Operator → Round → Numbered → Option RunRule → Course TurnState TurnState RunnerFault
-BestCalls by round line (Some rule) turn =
-    Unasked Memory (λ old new. BestRuled by old line (Some rule) new) turn
+BestCalls by round line (Some rule) turn = Unasked Memory (λ old new. BestRuled by old line (Some rule) new) turn
 BestCalls by round line None turn =
     Then (Asks by.company round) (Unasked Memory (IsCredited by turn line)) turn.game.events
 
@@ -110,8 +108,7 @@ BegunCalls file round company president =
 
 -- the course of the turn of a company in a round with the sheets of the file
 abbrev pub TurnCalls : List ℕ → Round → Company → Course Game Game RunnerFault
-TurnCalls file round company old =
-    Then (Unasked Memory (λ game turn. turn ≡ begun game company))
+TurnCalls file round company old = Then (Unasked Memory (λ game turn. turn ≡ begun game company))
     (BegunCalls file round company (president_of old.events company)) old
 
 -- the course of the orders of a company, these lines of its sheet

@@ -20,6 +20,5 @@ IsDue game company = (has_trains game.events company ≡ false) × CanRun (posit
 -- the end of a company's turn leads to new, with these as the company's orders: by a purchase that
 -- is due, or none is due
 abbrev pub EndLeads : Operator → List Numbered → Game → Game → Type 0
-EndLeads by lines game new =
-    (IsDue game by.company × (new ≡ after_forced by lines game))
+EndLeads by lines game new = (IsDue game by.company × (new ≡ after_forced by lines game))
     ⊎ ((¬ IsDue game by.company) × (new ≡ after_raises false by game lines))

@@ -27,7 +27,6 @@ line_recorded by turn line ruling = turn_state (with_event turn.game (event.Rule
 
 -- after this line, whose order breaks this rule first, or none: then it is done
 abbrev pub ruled : Operator → TurnState → Numbered → Order → Option Refusal → (TurnState → TurnState) → TurnState
-ruled by turn line order broken act =
-    done (λ (after : TurnState) (its : Order). act after)
+ruled by turn line order broken act = done (λ (after : TurnState) (its : Order). act after)
     (line_recorded by turn line (judged line.condition order broken))
     (order_obeyed (judged line.condition order broken))

@@ -26,7 +26,7 @@ use sheets::PartsLeft;
 use std::alloc::{AllocError, Global};
 use tables::{Company, Round};
 
-/// Returns the turn of a company at the head of its orders, with its home token placed. Fails only
+/// Returns the turn of a company at the start of its orders, with its home token placed. Fails only
 /// if allocation fails.
 pub fn begin_turn(
     alloc: Global,

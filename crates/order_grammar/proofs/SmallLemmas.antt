@@ -1,12 +1,13 @@
 -- The numbers of an order's parts: they are small where those of its form are.
-use Rattle.std.proofs.Common.{◌≡◌, Bool, true, nat_le, ◌&&◌, Option, Some, None, refl}
+use Rattle.std.proofs.Common.{◌≡◌, Bool, true, nat_le, ◌&&◌, if◌then◌else◌, [], ◌∷◌, Option, Some, None, refl}
 use Rattle.std.specs.List.{list_all}
 use Rattle.std.proofs.lemmas.Bool.{and_parts, le-leb, leb-true}
 use Rattle.tables.specs.Round.{number_most}
 use Rattle.tables.specs.declared.round.Round.{Round}
 use Rattle.tables.specs.declared.round.Round.TheVariants.{Opening, Stock, Operating}
-use Rattle.order_grammar.specs.Order.{parts_of, swap_values, Parts}
+use Rattle.order_grammar.specs.Order.{parts_of, Parts}
 use Rattle.order_grammar.specs.Spells.{HasSmallNumbers, IsSmallRound}
+use Rattle.order_grammar.specs.declared.keyword.Keyword.TheVariants as keyword
 use Rattle.order_grammar.specs.declared.order.Offer.TheVariants as offer
 use Rattle.order_grammar.specs.declared.order.Order.{Order}
 use Rattle.order_grammar.specs.declared.order.Order.TheVariants.{Game, Sheet, Cert, Play}
@@ -44,7 +45,7 @@ round_of_parts (Stock number) small = leb-true number number_most small
 round_of_parts (Operating set number) small = leb-true set number_most small
 
 -- the words of a lay have no numbers
-swap_small : (swap : Bool) → list_all is_small (swap_values swap) ≡ true
+swap_small : (swap : Bool) → list_all is_small (if swap then value.Word keyword.Swap ∷ [] else []) ≡ true
 swap_small true = refl
 swap_small other = refl
 

@@ -53,12 +53,14 @@ use Rattle.order_grammar.specs.declared.form.TrailingClass.TheVariants as traili
 use Rattle.order_grammar.specs.declared.keyword.Keyword.{Keyword}
 use Rattle.order_grammar.specs.declared.keyword.Keyword.TheVariants as keyword
 use Rattle.order_grammar.specs.declared.order.Order.{Order}
+use Rattle.order_grammar.specs.declared.order.Offer.TheVariants as offer
 use Rattle.order_grammar.specs.declared.order.Order.TheVariants.{Play, Run, Claim}
 use Rattle.order_grammar.specs.declared.order.Trailing.{Trailing}
 use Rattle.order_grammar.specs.declared.order.Trailing.TheVariants as trailing
+use Rattle.order_grammar.specs.declared.order.TrainSource.TheVariants as source
 use Rattle.order_grammar.specs.declared.order.Value.{Value}
 use Rattle.order_grammar.specs.declared.order.Value.TheVariants as value
-use Rattle.order_grammar.specs.declared.play.PlayOrder.TheVariants.{Pay}
+use Rattle.order_grammar.specs.declared.play.PlayOrder.TheVariants.{BuyTrain, Offer}
 use Rattle.order_grammar.proofs.HasWords.{has_word, has_words, have_words}
 use Rattle.order_grammar.proofs.OrderLemmas.{IsTextOf, AreTextsOf, AreWordsOfTrailing, AreWordsByParts, of_parts}
 use Rattle.order_grammar.proofs.PartLemmas.{AreRowsOf, known_read}
@@ -590,11 +592,13 @@ abbrev FitsParts : ℕ → Option Parts → Type 0
 FitsParts most None = Unit {0}
 FitsParts most (Some parts) = FitWithPlaces most parts.keyword parts.values parts.trailing
 
--- so do those of an order that does; one order of play is named, so that each is looked at
+-- so do those of an order that does; a purchase and an offer are named, so that each of their kinds
+-- is looked at
 fits_by_parts : (text : TextKind) (order : Order) → FitsLineIn text order → FitsParts text.most (parts_of order)
 fits_by_parts text (Run k run) fits = fits
 fits_by_parts text (Claim k run) fits = fits
-fits_by_parts text (Play Pay) fits = tt
+fits_by_parts text (Play (BuyTrain kind source.Bank)) fits = tt
+fits_by_parts text (Play (Offer (offer.Train kind seller buyer price))) fits = tt
 fits_by_parts text other fits = tt
 
 -- parts of a form that have words fit a line

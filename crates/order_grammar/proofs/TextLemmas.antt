@@ -23,8 +23,7 @@ use Rattle.tables.specs.declared.roster.Private.TheVariants as private
 use Rattle.tables.specs.declared.round.Round.TheVariants.{Opening, Stock, Operating}
 use Rattle.order_grammar.specs.Class.{are_digits, are_hex_digits, value_of_digits, digits_reading, round_of_series}
 use Rattle.order_grammar.specs.Class.{round_number_reading, number_in_set, operating_reading, round_reading}
-use Rattle.order_grammar.specs.Class.{class_reading, code_reading, named_reading, private_reading, company_reading}
-use Rattle.order_grammar.specs.Class.{kind_reading, is_of_class}
+use Rattle.order_grammar.specs.Class.{class_reading, code_reading, named_reading, is_of_class}
 use Rattle.order_grammar.specs.Keyword.{text_of_keyword}
 use Rattle.tables.specs.Round.{number_most, operating_most}
 use Rattle.order_grammar.specs.Name.{is_name}
@@ -130,15 +129,15 @@ round_read series text number is reading read =
     is.read ∙ round_digits_read series is.digits number is.no_zero is.is_number ∙ read is.digits is.is_number
 
 -- a private and a company are read by their codes
-private_read : (p : Private) → private_reading (code_of_private p) ≡ Value (value.Private p)
+private_read : (p : Private) → class_reading class.Private (code_of_private p) ≡ Value (value.Private p)
 private_read private.SchuylkillValley = refl
 private_read other = refl
 
-company_read : (co : Company) → company_reading (code_of_company co) ≡ Value (value.Company co)
+company_read : (co : Company) → class_reading class.Company (code_of_company co) ≡ Value (value.Company co)
 company_read company.Pennsylvania = refl
 company_read other = refl
 
-kind_read : (k : Kind) → kind_reading (code_of_kind k) ≡ Value (value.Kind k)
+kind_read : (k : Kind) → class_reading class.Kind (code_of_kind k) ≡ Value (value.Kind k)
 kind_read kind.Two = refl
 kind_read other = refl
 
@@ -159,9 +158,9 @@ value_read class.Round (value.Round (Operating set number)) text of is small =
     round_read (numbered.Operating number) text set (operating_by text set number is)
     (Value (value.Round (Operating set number)))
     (λ digits one. number_read (λ n. value.Round (Operating n number)) digits set one small)
-value_read class.Private (value.Private p) text of is small = ap private_reading is ∙ private_read p
-value_read class.Company (value.Company co) text of is small = ap company_reading is ∙ company_read co
-value_read class.Kind (value.Kind k) text of is small = ap kind_reading is ∙ kind_read k
+value_read class.Private (value.Private p) text of is small = ap (class_reading class.Private) is ∙ private_read p
+value_read class.Company (value.Company co) text of is small = ap (class_reading class.Company) is ∙ company_read co
+value_read class.Kind (value.Kind k) text of is small = ap (class_reading class.Kind) is ∙ kind_read k
 value_read class.Tile (value.Tile tile) text of is small =
     ap (named_reading value.Tile) ((texts_read.tiles text tile).1 is)
 value_read class.Hex (value.Hex hex) text of is small = ap (named_reading value.Hex) ((texts_read.hexes text hex).1 is)
@@ -388,11 +387,11 @@ class_read class.Name text =
       | inr other ↦ rw other tt
     ]
 class_read class.Round text = round_made text
-class_read class.Private text = private_as text (private_reading text)
+class_read class.Private text = private_as text (class_reading class.Private text)
     (code_made code_of_private value.Private privates text)
-class_read class.Company text = company_as text (company_reading text)
+class_read class.Company text = company_as text (class_reading class.Company text)
     (code_made code_of_company value.Company companies text)
-class_read class.Kind text = kind_as text (kind_reading text) (code_made code_of_kind value.Kind kinds text)
+class_read class.Kind text = kind_as text (class_reading class.Kind text) (code_made code_of_kind value.Kind kinds text)
 class_read class.Tile text = tile_as text (tile_of_text text) refl
 class_read class.Hex text = hex_as text (hex_of_text text) refl
 class_read class.Rotation text = rotation_as text (rotation_of_text text) refl

@@ -25,11 +25,13 @@ use Rattle.order_grammar.specs.declared.condition.Version.TheVariants.{Two}
 use Rattle.order_grammar.specs.declared.keyword.Keyword.{Keyword}
 use Rattle.order_grammar.specs.declared.keyword.Keyword.TheVariants as keyword
 use Rattle.order_grammar.specs.declared.order.Order.{Order}
+use Rattle.order_grammar.specs.declared.order.Offer.TheVariants as offer
 use Rattle.order_grammar.specs.declared.order.Order.TheVariants.{Play, Run, Claim}
 use Rattle.order_grammar.specs.declared.order.Trailing.{Trailing}
 use Rattle.order_grammar.specs.declared.order.Trailing.TheVariants as trailing
+use Rattle.order_grammar.specs.declared.order.TrainSource.TheVariants as source
 use Rattle.order_grammar.specs.declared.order.Value.{Value}
-use Rattle.order_grammar.specs.declared.play.PlayOrder.TheVariants.{Pay}
+use Rattle.order_grammar.specs.declared.play.PlayOrder.TheVariants.{BuyTrain, Offer}
 use Rattle.order_grammar.proofs.HasWords.{has_words, have_words}
 use Rattle.order_grammar.proofs.PartLemmas.{passed, rows_of_orders}
 use Rattle.order_grammar.proofs.SpellsLemmas.{read_spells}
@@ -105,7 +107,8 @@ fits_under condition (Run k run) fits begins =
 fits_under condition (Claim k run) fits begins =
     absurd (false≢true (passed (λ (word : List ℕ). not (same_word word (codes "CLAIM"))) play_words (codes "CLAIM")
     refl begins))
-fits_under condition (Play Pay) fits begins = tt
+fits_under condition (Play (BuyTrain kind source.Bank)) fits begins = tt
+fits_under condition (Play (Offer (offer.Train kind seller buyer price))) fits begins = tt
 fits_under condition other fits begins = tt
 
 -- words under a condition fit a line

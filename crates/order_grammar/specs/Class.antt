@@ -10,7 +10,6 @@ use Rattle.tables.specs.Train.{code_of_kind, kinds}
 use Rattle.tables.specs.Roster.{companies, code_of_company, privates, code_of_private}
 use Rattle.order_grammar.specs.Keyword.{text_of_keyword}
 use Rattle.tables.specs.Round.{number_most, operating_most}
-use Rattle.order_grammar.specs.Limits.{marks_digits_most}
 use Rattle.order_grammar.specs.Name.{is_name}
 use Rattle.order_grammar.specs.Words.{same_word}
 use Rattle.order_grammar.specs.declared.class.Class.{Class}
@@ -42,10 +41,6 @@ digits_reading as_value digits =
     if are_digits digits
     then (if nat_le (value_of_digits digits) number_most then Value (as_value (value_of_digits digits)) else TooLarge)
     else Wrong
-
--- digits, with leading zeros allowed
-abbrev pub number_reading : List ℕ → Reading
-number_reading word = digits_reading value.Number word
 
 -- the round of a number; operating rounds are numbered by their sets
 abbrev pub round_of_series : Series → ℕ → Round
@@ -89,48 +84,33 @@ code_reading code as_value [] word = Wrong
 code_reading code as_value (one ∷ others) word =
     if same_word word (code one) then Value (as_value one) else code_reading code as_value others word
 
--- the code of a private
-abbrev pub private_reading : List ℕ → Reading
-private_reading word = code_reading code_of_private value.Private privates word
-
--- the code of a company
-abbrev pub company_reading : List ℕ → Reading
-company_reading word = code_reading code_of_company value.Company companies word
-
--- a kind of train
-abbrev pub kind_reading : List ℕ → Reading
-kind_reading word = code_reading code_of_kind value.Kind kinds word
-
 -- a hexadecimal digit, letters raised
 abbrev pub is_hex_digit : ℕ → Bool
 is_hex_digit byte = is_digit byte || (nat_le 65 byte && nat_le byte 70)
 
--- hexadecimal digits, as many as a line of marks has
+-- hexadecimal digits, from 1 to 1,000: as many as a line of marks may have
 abbrev pub are_hex_digits : List ℕ → Bool
-are_hex_digits word = (nat_le 1 (length word) && nat_le (length word) marks_digits_most) && list_all is_hex_digit word
-
--- hexadecimal digits, whose value is in the word alone
-abbrev pub hex_digits_reading : List ℕ → Reading
-hex_digits_reading word = if are_hex_digits word then Value value.HexDigits else Wrong
+are_hex_digits word = (nat_le 1 (length word) && nat_le (length word) 1000) && list_all is_hex_digit word
 
 -- the value of what a word names, if it names any
 abbrev pub named_reading : {X : Type 0} → (X → values.Value) → Option X → Reading
 named_reading as_value (Some one) = Value (as_value one)
 named_reading as_value None = Wrong
 
--- what a word, letters raised, is as a text of a class
+-- what a word, letters raised, is as a text of a class; a number may have leading zeros, and the value
+-- of hexadecimal digits is in the word alone
 abbrev pub class_reading : Class → List ℕ → Reading
-class_reading class.Number word = number_reading word
+class_reading class.Number word = digits_reading value.Number word
 class_reading class.Name word = if is_name word then Value (value.Name word) else Wrong
 class_reading class.Round word = round_reading word
-class_reading class.Private word = private_reading word
-class_reading class.Company word = company_reading word
-class_reading class.Kind word = kind_reading word
+class_reading class.Private word = code_reading code_of_private value.Private privates word
+class_reading class.Company word = code_reading code_of_company value.Company companies word
+class_reading class.Kind word = code_reading code_of_kind value.Kind kinds word
 class_reading class.Tile word = named_reading value.Tile (tile_of_text word)
 class_reading class.Hex word = named_reading value.Hex (hex_of_text word)
 class_reading class.Rotation word = named_reading value.Rotation (rotation_of_text word)
 class_reading class.Place word = named_reading value.Place (place_of_text word)
-class_reading class.HexDigits word = hex_digits_reading word
+class_reading class.HexDigits word = if are_hex_digits word then Value value.HexDigits else Wrong
 class_reading (class.Word keyword) word =
     if same_word word (text_of_keyword keyword) then Value (value.Word keyword) else Wrong
 

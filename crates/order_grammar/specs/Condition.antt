@@ -70,9 +70,8 @@ under condition order = Err WrongWords
 -- the words after PRICE: a company, >=, a number and an order
 abbrev pub price_reading : List (List ℕ) → Result Ordered Fault
 price_reading (company ∷ at_least ∷ price ∷ words) =
-    if same_word at_least (text_of_keyword keyword.AtLeast)
-    then under (price_condition (class_reading class.Company company) (class_reading class.Number price))
-    (play_reading words)
+    if same_word at_least (text_of_keyword keyword.AtLeast) then
+    under (price_condition (class_reading class.Company company) (class_reading class.Number price)) (play_reading words)
     else Err WrongWords
 price_reading other = Err WrongWords
 
@@ -84,8 +83,7 @@ reading_of_one class (word ∷ words) = under (condition_of (class_reading class
 -- the words after IF
 abbrev pub conditional_reading : List (List ℕ) → Result Ordered Fault
 conditional_reading [] = Err WrongWords
-conditional_reading (first ∷ words) =
-    if same_word first (text_of_keyword keyword.Price) then price_reading words else
+conditional_reading (first ∷ words) = if same_word first (text_of_keyword keyword.Price) then price_reading words else
     if same_word first (text_of_keyword keyword.Phase) then reading_of_one class.Kind words else
     if same_word first (text_of_keyword keyword.Floated) then reading_of_one class.Company words else Err WrongWords
 
@@ -93,9 +91,8 @@ conditional_reading (first ∷ words) =
 abbrev pub ordered_reading : List (List ℕ) → Result Ordered Fault
 ordered_reading [] = Ok (ordered None Blank)
 ordered_reading (first ∷ rest) =
-    if same_word first (text_of_keyword keyword.If)
-    then conditional_reading rest
-    else unconditional (rows_reading order_forms first rest)
+    if same_word first (text_of_keyword keyword.If) then conditional_reading rest else
+    unconditional (rows_reading order_forms first rest)
 
 -- what a reading is that gives a condition and puts the order in its place
 abbrev pub put_conditional : Result Condition Fault → Order → Result Ordered Fault

@@ -158,9 +158,8 @@ put_reading (Err fault) order = Err fault
 -- what a first word and the words after it are by a row
 abbrev pub row_reading : Row → List ℕ → List (List ℕ) → Result Order Fault
 row_reading row first rest =
-    if same_word first (text_of_keyword row.keyword)
-    then order_of_values row.keyword (values_by_row row rest)
-    else Err UnknownWord
+    if same_word first (text_of_keyword row.keyword) then order_of_values row.keyword (values_by_row row rest) else
+    Err UnknownWord
 
 -- how near to an order it is
 abbrev pub nearness : Result Order Fault → ℕ

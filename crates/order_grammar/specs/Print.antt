@@ -52,13 +52,9 @@ words_of_trailing (trailing.Places run) = map text_of_place run
 abbrev pub spaced : List (List ℕ) → List ℕ
 spaced words = flat_map (λ word. 32 ∷ word) words
 
--- the words of values, each with a space before it
-abbrev pub values_text : List Value → List ℕ
-values_text values = spaced (map text_of_value values)
-
--- a literal word, and the words of values
+-- a literal word, and the words of values, each with a space before it
 abbrev pub words_text : Keyword → List Value → List ℕ
-words_text keyword values = text_of_keyword keyword ++ values_text values
+words_text keyword values = text_of_keyword keyword ++ spaced (map text_of_value values)
 
 -- the words of places, each with a space before it
 abbrev pub places_text : List Place → List ℕ

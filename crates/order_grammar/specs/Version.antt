@@ -20,12 +20,8 @@ words_reading_in Two words = ordered_reading words
 -- the order of a line with its condition, or its first fault
 abbrev pub reading_in : Version → List ℕ → Result Ordered Fault
 reading_in version line =
-    if nat_lt line_most (length line)
-    then Err TooLong
-    else
-    (if list_all is_printable (before_comment line)
-    then words_reading_in version (words_of line)
-    else Err StrayByte)
+    if nat_lt line_most (length line) then Err TooLong else
+    if list_all is_printable (before_comment line) then words_reading_in version (words_of line) else Err StrayByte
 
 -- the order of a line that was read with its condition, without its words
 abbrev pub ordered_of : Result Line Fault → Result Ordered Fault

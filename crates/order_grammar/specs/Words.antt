@@ -24,17 +24,13 @@ words_from word [] = with_word word []
 words_from word (byte ∷ bytes) =
     if byte == 32 then with_word word (words_from [] bytes) else words_from (word ++ byte ∷ []) bytes
 
--- the words of a line as they are written there
-abbrev pub written_words : List ℕ → List (List ℕ)
-written_words line = words_from [] (before_comment line)
-
 -- a word with its letters raised
 abbrev pub raised : List ℕ → List ℕ
 raised word = map to_ascii_uppercase word
 
 -- the words of a line
 abbrev pub words_of : List ℕ → List (List ℕ)
-words_of line = map raised (written_words line)
+words_of line = map raised (words_from [] (before_comment line))
 
 -- the first of some words; nothing if there is none
 abbrev pub first_of_words : List (List ℕ) → List ℕ
@@ -58,8 +54,7 @@ has_words (word ∷ words) = true
 abbrev pub same_word : List ℕ → List ℕ → Bool
 same_word [] [] = true
 same_word (a ∷ as_) (b ∷ bs) = a == b && same_word as_ bs
-same_word [] (b ∷ bs) = false
-same_word (a ∷ as_) [] = false
+same_word word other = false
 
 -- a word as it is written, and where it is in its text: from start, up to and without end
 pub record Placed : Type 0 where

@@ -4,19 +4,15 @@ ghost use Rattle.std.specs.List.{list_all};
 ghost use Rattle.order_grammar.specs.Class.{
   capped_value,
   class_reading,
-  company_reading,
-  hex_digits_reading,
   is_hex_digit,
-  kind_reading,
   number_in_set,
-  number_reading,
   operating_reading,
-  private_reading,
   round_number_reading,
   round_of_series,
   round_reading,
 };
 ghost use Rattle.order_grammar.specs.Words.{raised};
+ghost use Rattle.order_grammar.specs.declared.class.Class.TheVariants as class;
 
 use crate::keyword::Keyword;
 use crate::name::Name;
@@ -152,7 +148,7 @@ fn digits_value(word: &[u8]) -> Option<u32>
 }
 
 fn read_number(word: &[u8]) -> Reading
-    ensures { result ≡ number_reading (raised word.now) }
+    ensures { result ≡ class_reading class.Number (raised word.now) }
 {
     match digits_value(word) {
         None => Reading::Wrong,
@@ -218,7 +214,7 @@ fn read_round_number(series: Series, digits: &[u8]) -> Reading
 }
 
 fn read_private(word: &[u8]) -> Reading
-    ensures { result ≡ private_reading (raised word.now) }
+    ensures { result ≡ class_reading class.Private (raised word.now) }
 {
     for &private in &Private::ALL {
         if is_word(word, private.code().as_bytes()) {
@@ -229,7 +225,7 @@ fn read_private(word: &[u8]) -> Reading
 }
 
 fn read_company(word: &[u8]) -> Reading
-    ensures { result ≡ company_reading (raised word.now) }
+    ensures { result ≡ class_reading class.Company (raised word.now) }
 {
     for &company in &Company::ALL {
         if is_word(word, company.code().as_bytes()) {
@@ -240,7 +236,7 @@ fn read_company(word: &[u8]) -> Reading
 }
 
 fn read_kind(word: &[u8]) -> Reading
-    ensures { result ≡ kind_reading (raised word.now) }
+    ensures { result ≡ class_reading class.Kind (raised word.now) }
 {
     for &kind in &Kind::ALL {
         if is_word(word, kind.code().as_bytes()) {
@@ -251,7 +247,7 @@ fn read_kind(word: &[u8]) -> Reading
 }
 
 fn read_hex_digits(word: &[u8]) -> Reading
-    ensures { result ≡ hex_digits_reading (raised word.now) }
+    ensures { result ≡ class_reading class.HexDigits (raised word.now) }
 {
     if word.is_empty() || word.len() > MARKS_DIGITS_MOST || !are_hex_digits(word) {
         return Reading::Wrong;

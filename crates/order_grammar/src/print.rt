@@ -1,5 +1,5 @@
 //! The one spelling of an order, with its condition if it has one.
-ghost use Rattle.std.specs.Prelude.{◌≡◌, ◌++◌, ◌∷◌, [], false, IfOk, List, OnErr, OnOk};
+ghost use Rattle.std.specs.Prelude.{◌≡◌, ◌++◌, ◌∷◌, [], false, IfOk, List, OnErr, OnOk, map};
 ghost use Rattle.std.specs.Option.{option_copied};
 ghost use Rattle.map_tables.specs.Text.{text_of_place};
 ghost use Rattle.map_tables.specs.declared.place.Place.{Place as MapPlace};
@@ -7,7 +7,7 @@ ghost use Rattle.order_grammar.specs.Condition.{condition_values};
 ghost use Rattle.order_grammar.specs.Keyword.{text_of_keyword};
 ghost use Rattle.order_grammar.specs.Print.{AddsPrefix, condition_text, conditional_spelling, joined, places_line};
 ghost use Rattle.order_grammar.specs.Print.{places_text, spaced, spelling_of, text_of_round, text_of_value};
-ghost use Rattle.order_grammar.specs.Print.{values_text, words_text};
+ghost use Rattle.order_grammar.specs.Print.{words_text};
 ghost use Rattle.order_grammar.specs.declared.keyword.Keyword.TheVariants.{If, Players};
 ghost use Rattle.order_grammar.specs.declared.order.Order.TheVariants.{Play, Run};
 ghost use Rattle.order_grammar.specs.declared.order.Value.TheVariants.{Number};
@@ -334,8 +334,9 @@ fn print_words(text: &mut Vec<u8>, keyword: Keyword, values: &[Value]) -> Result
 
 /// Adds words of values, each with a space before it.
 fn print_values(text: &mut Vec<u8>, values: &[Value]) -> Result<(), AllocError>
-    ensures ok { OnOk result (text.new.items ≡ text.old.items ++ values_text values.now) }
-    ensures err { OnErr result (AddsPrefix text.old.items text.new.items (values_text values.now)) }
+    ensures ok { OnOk result (text.new.items ≡ text.old.items ++ spaced (map text_of_value values.now)) }
+    ensures err { OnErr result (AddsPrefix text.old.items text.new.items
+        (spaced (map text_of_value values.now))) }
 {
     for value in values {
         text.push(b' ')?;

@@ -13,7 +13,7 @@ pub limit_in_cash : (bid : ℤ) (ordered : Option ℕ) (free : ℤ) → bid ≤�
 limit_in_cash bid None free within = within
 limit_in_cash bid (Some ordered) free within = omega (arith, ints, clamps)
 
--- nor over 99,999, if neither the bid nor what was ordered is
+-- nor more than 99,999, if neither the bid nor what was ordered is
 pub limit_is_small : (bid : ℕ) (ordered : Option ℕ) (free : ℤ) → bid ≤ 99999
     → ((amount : ℕ) → ordered ≡ Some amount → amount ≤ 99999) → limit_from (pos bid) ordered free ≤ℤ pos 99999
 limit_is_small bid None free small ordered_small = omega (arith, ints)

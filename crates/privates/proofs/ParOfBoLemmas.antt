@@ -1,4 +1,4 @@
--- The par value that a buyer of BOP sets is a par value, so no sum of over 1,000,000.
+-- The par value that a buyer of BOP sets is a par value, so no sum of more than 1,000,000.
 use Rattle.std.proofs.Common.{◌≡◌, ℕ, ◌≤◌, ◌==◌, ◌&&◌, Bool, true, false, nat_le, if◌then◌else◌, List, [], ◌∷◌, Option}
 use Rattle.std.proofs.Common.{Some, None, is_some, unwrap_or, refl, subst, arith}
 use Rattle.std.specs.List.{find, list_all}
@@ -75,6 +75,6 @@ found_low : (price : ℕ) (squares : List Square) → list_all (λ square. nat_l
 found_low price [] low found = cc
 found_low price (square ∷ squares) low found = grind (arith, nat_tests, found_low price squares)
 
--- no par value is over 1,000,000
+-- no par value is more than 1,000,000
 pub par_low : (price : ℕ) → is_par_value price ≡ true → price ≤ 1000000
 par_low price is = found_low price par_squares refl is

@@ -25,7 +25,7 @@ use Rattle.tables.specs.declared.roster.Private.TheVariants.{SchuylkillValley, C
 use Rattle.tables.specs.declared.seat.Seat.{Seat}
 use Rattle.tables.specs.declared.squares.Square.{Square}
 
--- 5 less than a price of SV that is over 5
+-- 5 less than a price of SV that is more than 5
 fallen_price : (before after : ℕ) → after ≡ before - 5 → after ≢ 0 → IsSvPrice before → IsSvPrice after
 fallen_price before after fallen some price =
     elim price [

@@ -72,8 +72,7 @@ price_among winner first others =
 -- who buys and for how much
 abbrev pub auction_of : List Bidder → Seat × ℤ
 auction_of [] = (record { 0 = 0 }, pos 0)
-auction_of (first ∷ others) =
-    let winner = winner_among first others in (winner.0, price_among winner first others)
+auction_of (first ∷ others) = let winner = winner_among first others in (winner.0, price_among winner first others)
 
 -- this holds of each of some bidders
 abbrev pub EachBidder : (Bidder → Type 0) → List Bidder → Type 0

@@ -1,10 +1,9 @@
 -- A bid. In a turn a seat may bid on an unsold private that is not the cheapest. It bids at least 5
 -- over its face and over every earlier bid on it, whether or not that is held. The bid is held.
-use Rattle.std.specs.Prelude.{◌≡◌, ℕ, ◌+◌, Bool, false, ◌||◌, nat_lt, List, [], ◌∷◌, ◌++◌, Option, Some, None}
+use Rattle.std.specs.Prelude.{◌≡◌, ℕ, ◌+◌, Bool, false, ◌||◌, nat_lt, List, [], ◌∷◌, Option, Some, None}
 use Rattle.std.specs.List.{list_any}
 use Rattle.events.specs.Event.{bidding_of}
 use Rattle.events.specs.declared.event.Event.{Event}
-use Rattle.events.specs.declared.event.Event.TheVariants.{Bids}
 use Rattle.events.specs.declared.ruling.OpeningRule.{OpeningRule}
 use Rattle.events.specs.declared.ruling.OpeningRule.TheVariants.{Sold, BidTooLow, CashTooSmall, TurnUsed}
 use Rattle.events.specs.declared.ruling.OpeningRule.TheVariants.{BidForCheapest}
@@ -37,19 +36,13 @@ is_too_low events private amount = nat_lt amount (face_of private + 5) || is_nea
 -- - the turn is used;
 -- - the private is the cheapest unsold one.
 abbrev pub bid_rules : ℕ → List Event → Seat → Bool → Private → ℕ → List (Rule OpeningRule)
-bid_rules seats events seat used private amount =
-    record { code = Sold; broken = is_sold events private }
+bid_rules seats events seat used private amount = record { code = Sold; broken = is_sold events private }
     ∷ record { code = BidTooLow; broken = is_too_low events private amount }
     ∷ record { code = CashTooSmall; broken = is_short seats events seat private amount }
-    ∷ record { code = TurnUsed; broken = used }
-    ∷ record { code = BidForCheapest; broken = is_cheapest events private }
+    ∷ record { code = TurnUsed; broken = used } ∷ record { code = BidForCheapest; broken = is_cheapest events private }
     ∷ []
 
 -- the seat can bid this much on the private, whatever its turn has done before
 pub record MayBid (seats : ℕ) (events : List Event) (seat : Seat) (private : Private) (amount : ℕ) : Type 0 where
   pub pays : MayPay seats events seat private amount
   pub high : is_too_low events private amount ≡ false
-
--- after a bid of a seat on a private
-abbrev pub after_bid : Seat → List Event → Private → ℕ → List Event
-after_bid seat events private amount = events ++ Bids private seat amount ∷ []

@@ -18,12 +18,10 @@ use Rattle.tables.specs.declared.seat.Seat.{Seat}
 -- - its price is over what the seat can spend on it;
 -- - the turn is used.
 abbrev pub private_purchase_rules : ℕ → List Event → Seat → Bool → Private → List (Rule OpeningRule)
-private_purchase_rules seats events seat used private =
-    record { code = Sold; broken = is_sold events private }
+private_purchase_rules seats events seat used private = record { code = Sold; broken = is_sold events private }
     ∷ record { code = NotCheapest; broken = not (is_cheapest events private) }
     ∷ record { code = CashTooSmall; broken = is_short seats events seat private (price_of_private events private) }
-    ∷ record { code = TurnUsed; broken = used }
-    ∷ []
+    ∷ record { code = TurnUsed; broken = used } ∷ []
 
 -- after the purchase of a private by a seat
 abbrev pub after_private_purchase : ℕ → Seat → List Event → Private → List Event

@@ -28,9 +28,7 @@ after_fall seats events price holder =
 
 -- after all have passed: SV falls by 5 if it is unsold, and otherwise each sold private pays
 abbrev pub after_passing : ℕ → List Event → List Event
-after_passing seats events =
-    if is_sold events SchuylkillValley
-    then after_revenues seats events privates
+after_passing seats events = if is_sold events SchuylkillValley then after_revenues seats events privates
     else after_fall seats events (sv_price_of events - 5) (priority_of seats events)
 
 -- after the turns: once all privates are sold nothing falls and nothing is paid

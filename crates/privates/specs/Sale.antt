@@ -19,16 +19,12 @@ use Rattle.tables.specs.declared.roster.Private.{Private}
 use Rattle.tables.specs.declared.roster.Private.TheVariants.{CamdenAmboy, BaltimoreOhio}
 use Rattle.tables.specs.declared.seat.Seat.{Seat}
 
--- BO starts at this par value, and a seat has its president's certificate
-abbrev pub started_at : Seat → ℕ → List Event
-started_at president par =
-    Par company.BaltimoreOhio par ∷ Given company.BaltimoreOhio president 2
-    ∷ President company.BaltimoreOhio president ∷ []
-
--- what comes with a private
+-- What comes with a private: with CA 1 share of PRR; with BOP the start of BO at the par value that
+-- its buyer sets, and the president's certificate of BO, 2 shares.
 abbrev pub gifts : List Event → Private → Seat → List Event
 gifts events CamdenAmboy buyer = Given company.Pennsylvania buyer 1 ∷ []
-gifts events BaltimoreOhio buyer = started_at buyer (par_set_by events buyer)
+gifts events BaltimoreOhio buyer = Par company.BaltimoreOhio (par_set_by events buyer)
+    ∷ Given company.BaltimoreOhio buyer 2 ∷ President company.BaltimoreOhio buyer ∷ []
 gifts events other buyer = []
 
 -- after the sale of a private to a buyer at this price
@@ -39,7 +35,7 @@ after_private_sale events private buyer price = events ++ Sold private buyer pri
 abbrev pub bidder_of : ℕ → List Event → Private → Bid → Bidder
 bidder_of seats events private bid = (bid.seat, pos bid.amount, auction_limit seats events private bid)
 
--- after a sale to the winner of an auction, who pays this; no price is under 0
+-- after a sale to the winner of an auction, who pays this; no price is less than 0
 abbrev pub after_auction : List Event → Private → Seat × ℤ → List Event
 after_auction events private won = after_private_sale events private won.0 (unsigned_abs won.1)
 

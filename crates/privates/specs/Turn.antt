@@ -1,7 +1,8 @@
 -- A seat's turn: the lines of its written turn are ruled in order, each on the list that the one
 -- before left. In a turn a seat may buy or bid, once. A seat that neither bought nor bid passes.
-use Rattle.std.specs.Prelude.{ℕ, Bool, true, false, List, Option, Some, option_map}
+use Rattle.std.specs.Prelude.{ℕ, Bool, true, false, List, [], ◌∷◌, ◌++◌, Option, Some, option_map}
 use Rattle.events.specs.declared.event.Event.{Event}
+use Rattle.events.specs.declared.event.Event.TheVariants.{Bids}
 use Rattle.events.specs.declared.ruling.OpeningRule.{OpeningRule}
 use Rattle.events.specs.declared.ruling.OpeningRule.TheVariants.{NotOfOpening}
 use Rattle.events.specs.declared.ruling.Refusal.{Refusal}
@@ -11,7 +12,7 @@ use Rattle.order_grammar.specs.declared.order.Order.{Order}
 use Rattle.order_grammar.specs.declared.order.Order.TheVariants.{Play}
 use Rattle.order_grammar.specs.declared.play.PlayOrder.TheVariants.{BuyPrivate, Bid}
 use Rattle.privates.specs.Bank.{MayPay, price_of_private}
-use Rattle.privates.specs.Bid.{MayBid, after_bid, bid_rules}
+use Rattle.privates.specs.Bid.{MayBid, bid_rules}
 use Rattle.privates.specs.Buy.{after_private_purchase, private_purchase_rules}
 pub use Rattle.privates.specs.Closing.{all_sold}
 use Rattle.privates.specs.Closing.{opening_round_closed}
@@ -48,7 +49,7 @@ MayAct seats events seat other = Unit {0}
 -- after what follows from an order that was obeyed in a turn
 abbrev pub after_opening_order : ℕ → Seat → List Event → Order → List Event
 after_opening_order seats seat events (Play (BuyPrivate private)) = after_private_purchase seats seat events private
-after_opening_order seats seat events (Play (Bid private amount)) = after_bid seat events private amount
+after_opening_order seats seat events (Play (Bid private amount)) = events ++ Bids private seat amount ∷ []
 after_opening_order seats seat events other = events
 
 -- in a turn, after what follows from an order that is done: the seat has bought or bid
@@ -73,12 +74,11 @@ after_opening_line seats seat turn line =
 -- The rules of an opening round. A seat that bought or bid has acted. The turns are over once all
 -- privates are sold, even if not all seats have passed in succession.
 abbrev pub opening_rules : RoundRules Bool
-opening_rules =
-    record {
-      standing = after_opening_standing_line;
-      nothing = false;
-      line = after_opening_line;
-      has_acted = λ acted. acted;
-      over = all_sold;
-      closed = opening_round_closed;
-    }
+opening_rules = record {
+  standing = after_opening_standing_line;
+  nothing = false;
+  line = after_opening_line;
+  has_acted = λ acted. acted;
+  over = all_sold;
+  closed = opening_round_closed;
+}

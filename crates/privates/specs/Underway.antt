@@ -19,7 +19,7 @@ PennsylvaniaWaits events = is_sold events CamdenAmboy ≡ false → square_of ev
 abbrev pub BaltimoreWaits : List Event → Type 0
 BaltimoreWaits events = is_sold events BaltimoreOhio ≡ false → square_of events company.BaltimoreOhio ≡ None
 
--- no limit of this round is over 99,999
+-- no limit of this round is more than 99,999
 abbrev pub LimitsAreSmall : List Event → Type 0
 LimitsAreSmall events = (private : Private) (seat : Seat) (amount : ℕ)
     → bid_limit_of events private seat ≡ Some amount → amount ≤ 99999

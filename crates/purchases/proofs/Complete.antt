@@ -32,7 +32,7 @@ pub as_many : (before after : List Event) (kind : Kind) (number : ℕ)
 as_many before after kind number out =
     there_is after kind number ∙ ap (λ (left : ℤ). pos number -ℤ left) out ∙ sym (there_is before kind number)
 
--- between a game and a later one the bank sells none of a kind, and none of it leaves play
+-- between a game and a later one the bank sells none of a kind, and none of it is removed from the game
 pub record Alike (kind : Kind) (before after : Game) : Type 0 where
   pub sold : trains_sold after.events kind ≡ trains_sold before.events kind
   pub out : trains_at after.events place.OutOfPlay kind ≡ trains_at before.events place.OutOfPlay kind

@@ -51,7 +51,7 @@ one_alike new kind other stays game =
           (alike_rusted kind other apart)) game) ((alike_on kind).same game)
     ]
 
--- of trains of a kind that do not rust at this one none leaves play
+-- of trains of a kind that do not rust at this one none is removed from the game
 rust_alike : (new kind : Kind) → rusts_at (rusting_of kind) new ≡ false → (game : Game)
     → Alike kind game (with_rusted new game)
 rust_alike new kind stays game =

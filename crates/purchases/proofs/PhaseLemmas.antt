@@ -79,7 +79,7 @@ one_less events owner kind =
       ap one_if (comes_nowhere owner kind),
     )
 
--- no limit is over 4
+-- no limit is more than 4
 limit_small : (phase : Kind) → limit_of phase ≤ 4
 limit_small Two = omega arith
 limit_small Three = omega arith

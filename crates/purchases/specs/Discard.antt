@@ -84,10 +84,7 @@ discarded_by company other = None
 -- The lines that are still to be used after an event. A round begins without any, one that is
 -- obeyed is the last, and one is used up if the company discards while the seat presides.
 abbrev pub kinds_then : Seat → Company → Lines → Event → List Kind
-kinds_then seat company lines event =
-    if is_some (round_begun_by event)
-    then []
-    else without
+kinds_then seat company lines event = if is_some (round_begun_by event) then [] else without
     (option_map_or (λ kind. lines.kinds ++ kind ∷ []) (discard_ordered_by seat company (obeyed_of event)) lines.kinds)
     (if lines.presides then discarded_by company event else None)
 
@@ -98,11 +95,10 @@ presides_then seat presides (Some president) = president.0 == seat.0
 
 -- the lines that are still to be used, and whether the seat presides, after an event
 abbrev pub lines_then : Seat → Company → Lines → Event → Lines
-lines_then seat company lines event =
-    record {
-      presides = presides_then seat lines.presides (president_said company (office_of event));
-      kinds = kinds_then seat company lines event;
-    }
+lines_then seat company lines event = record {
+  presides = presides_then seat lines.presides (president_said company (office_of event));
+  kinds = kinds_then seat company lines event;
+}
 
 -- the kinds of a seat's lines for a company that are still to be used in this round, in order
 abbrev pub discard_lines_left : List Event → Company → Option Seat → List Kind

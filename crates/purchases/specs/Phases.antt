@@ -1,5 +1,5 @@
 -- What the first train of a later kind from the bank brings, event by event, each on the list that
--- the one before left. Its phase begins. The trains that it rusts leave play, company by company
+-- the one before left. Its phase begins. The trains that it rusts are removed from the game, company by company
 -- and then those of the pool. With the first 5 all privates close. Then each company with more
 -- trains than the new phase allows discards those that are too many to the pool.
 use Rattle.std.specs.Prelude.{ℕ, Bool, false, if◌then◌else◌, Option, Some, None, is_some, pos, ◌-ℤ◌}

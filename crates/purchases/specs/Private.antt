@@ -37,7 +37,7 @@ use Rattle.tables.specs.declared.seat.Seat.{Seat}
 abbrev pub is_too_early : List Event → Bool
 is_too_early events = nat_lt (index_of_kind (phase_of events)) (index_of_kind Three)
 
--- the price is under half of the face value, or over twice that
+-- the price is less than half of the face value, or more than twice that
 abbrev pub is_wrong_price : Private → ℕ → Bool
 is_wrong_price private price =
     nat_lt (price + price) (face_of private) || nat_lt (face_of private + face_of private) price
@@ -68,13 +68,11 @@ private_costs_too_much game company price = lt_z (cash_of game.seats game.events
 
 -- the rules of the purchase of a private by a company, by these consents
 abbrev pub private_rules_by : Consents → Game → Company → Private → ℕ → List (Rule PrivateRule)
-private_rules_by consents game company private price =
-    record { code = TooEarly; broken = is_too_early game.events }
+private_rules_by consents game company private price = record { code = TooEarly; broken = is_too_early game.events }
     ∷ record { code = WrongPrice; broken = is_wrong_price private price }
     ∷ record { code = NoConsent; broken = not (is_given_by consents game.events company private price) }
     ∷ record { code = NeverSold; broken = same_private private BaltimoreOhio }
-    ∷ record { code = CashTooSmall; broken = private_costs_too_much game company price }
-    ∷ []
+    ∷ record { code = CashTooSmall; broken = private_costs_too_much game company price } ∷ []
 
 -- the rules of the purchase of a private by a company
 abbrev pub private_rules : Game → Company → Private → ℕ → List (Rule PrivateRule)

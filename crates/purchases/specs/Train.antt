@@ -108,12 +108,10 @@ price_for_trade other = (trains_of other).price
 
 -- a train of the kind may be traded in for a D
 abbrev pub may_be_traded : Kind → Bool
-may_be_traded Two = false
-may_be_traded Three = false
 may_be_traded Four = true
 may_be_traded Five = true
 may_be_traded Six = true
-may_be_traded Diesel = false
+may_be_traded other = false
 
 -- what a train of the bank or the pool costs
 abbrev pub price_of_train : Kind → Option Kind → ℕ
@@ -154,12 +152,10 @@ presidents_agree events giver taker sale = presidents_agree_by OfGame events giv
 
 -- by these consents a company that is to sell a train has not consented, or the price is 0
 abbrev pub is_not_given_by : Consents → List Event → Company → TrainPurchase → TrainSeller → Bool
-is_not_given_by consents events buyer purchase seller.Bank = false
-is_not_given_by consents events buyer purchase seller.BankPool = false
-is_not_given_by consents events buyer purchase (seller.Company company) =
-    train_purchase_cost purchase == 0
+is_not_given_by consents events buyer purchase (seller.Company company) = train_purchase_cost purchase == 0
     || not (presidents_agree_by consents events (president_of events company) (president_of events buyer)
     (offer.Train purchase.kind company buyer (train_purchase_cost purchase)))
+is_not_given_by consents events buyer purchase other = false
 
 -- a company that is to sell a train has not consented in the game, or the price is 0
 abbrev pub is_not_given : List Event → Company → TrainPurchase → TrainSeller → Bool
@@ -188,8 +184,7 @@ train_purchase_rules_by consents game company purchase =
     ∷ record { code = CashTooSmall; broken = train_costs_too_much game company purchase }
     ∷ record { code = NoConsent; broken = lacks_consent_by consents game.events company purchase }
     ∷ record { code = NotSellers; broken = is_not_sellers game.events company purchase.kind purchase.from }
-    ∷ record { code = NoTradeIn; broken = is_no_trade_in game.events company purchase.kind purchase.trade_in }
-    ∷ []
+    ∷ record { code = NoTradeIn; broken = is_no_trade_in game.events company purchase.kind purchase.trade_in } ∷ []
 
 -- the rules of a purchase by a company
 abbrev pub train_purchase_rules : Game → Company → TrainPurchase → List (Rule TrainRule)
@@ -220,11 +215,8 @@ with_bop_closed game buyer = if same_company buyer company.BaltimoreOhio then wi
 
 -- after the train has gone to the company
 abbrev pub train_bought : Game → Company → TrainPurchase → Game
-train_bought game company purchase =
-    with_bop_closed
-    (with_event (with_trade game company purchase.trade_in)
-    (event.Train company purchase.kind purchase.from (train_purchase_cost purchase)))
-    company
+train_bought game company purchase = with_bop_closed (with_event (with_trade game company purchase.trade_in)
+    (event.Train company purchase.kind purchase.from (train_purchase_cost purchase))) company
 
 -- the purchase is that of the first train of a later kind from the bank
 abbrev pub begins_phase : List Event → TrainSeller → Kind → Bool

@@ -64,7 +64,7 @@ fn is_too_early(view: &GameView) -> bool
     view.phase().index() < Kind::Three.index()
 }
 
-/// Returns whether a price is under half of the face value, or over twice that.
+/// Returns whether a price is less than half of the face value, or more than twice that.
 fn is_wrong_price(private: Private, price: Amount) -> bool
     ensures { result ≡ is_wrong_price private price }
 {

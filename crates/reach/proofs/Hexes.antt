@@ -1,4 +1,4 @@
--- The numbers of hexes: each hex has its own, under 93.
+-- The numbers of hexes: each hex has its own, less than 93.
 use Rattle.std.proofs.Common.{◌≡◌, ◌<◌, get_or, refl, ap, sym, ◌∙◌, lit<, length}
 use Rattle.map_tables.proofs.HexTables.{hex_at_index}
 use Rattle.map_tables.specs.Hex.{hexes, index_of, site_of}
@@ -22,7 +22,7 @@ unfolding hexes index_of site_of
 index_in A9 = lit< tt
 index_in hex = lit< tt
 
--- each number is under 93
+-- each number is less than 93
 pub index_low : (hex : Hex) → index_of hex < 93
 unfolding index_of hexes site_of
 index_low A9 = lit< tt
@@ -46,7 +46,7 @@ side_at s = refl
 pub same_side : (a b : Side) → number_of a ≡ number_of b → a ≡ b
 same_side a b same = sym (side_at a) ∙ ap (λ n. get_or sides n SouthWest) same ∙ side_at b
 
--- each number is under 6
+-- each number is less than 6
 pub side_low : (s : Side) → number_of s < 6
 side_low SouthWest = lit< tt
 side_low s = lit< tt
@@ -63,7 +63,7 @@ same_stop_index Second Second same = refl
 same_stop_index First Second same = cc
 same_stop_index Second First same = cc
 
--- each index is under 2
+-- each index is less than 2
 pub stop_index_low : (number : StopNumber) → stop_index_of number < 2
 stop_index_low First = lit< tt
 stop_index_low Second = lit< tt

@@ -125,7 +125,7 @@ same_order a b same =
     in ap (λ h. stop_at h a.number) (same_index a.hex b.hex both.0)
     ∙ ap (λ n. stop_at b.hex n) (same_stop_index a.number b.number both.1)
 
--- each place in the order of the map is under 186
+-- each place in the order of the map is less than 186
 pub order_low : (stop : Stop) → stop_order stop < 186
 order_low stop = omega (arith, index_low stop.hex, stop_index_low stop.number)
 

@@ -11,11 +11,6 @@ use Rattle.map_tables.specs.declared.track.TrackEnd.TheVariants.{Stop as AtStop}
 use Rattle.map_tables.specs.declared.track.Link.{Link}
 use Rattle.reach.specs.Position.{Position, IsAmong, links_of, value_of, is_red}
 
--- a hex that is part of another's stop has one stop: no track of it leads to a second
-abbrev pub PartsHaveOneStop : Position → Type 0
-PartsHaveOneStop position =
-    (hex : Hex) (link : Link) → IsAmong link (links_of position hex) → link.b ≡ AtStop Second → joined_hex hex ≡ hex
-
 -- The laws of positions. The links of each hex lie in it and are in order without repeats; the ends
 -- of each differ and are not both stops. Borders pair both ways. No stop is worth more than 80
 -- dollars. The Gulf, J2.0, and the Canadian West, A11.0, are red; the other hex of each has no
@@ -26,4 +21,5 @@ pub record IsLawful (position : Position) : Type 0 where
   pub values : (stop : Stop) → value_of position stop ≤ 80
   pub gulf_is_red : is_red position (record { hex = J2; number = First }) ≡ true
   pub canadian_west_is_red : is_red position (record { hex = A11; number = First }) ≡ true
-  pub parts_have_one_stop : PartsHaveOneStop position
+  pub parts_have_one_stop : (hex : Hex) (link : Link) → IsAmong link (links_of position hex) → link.b ≡ AtStop Second
+      → joined_hex hex ≡ hex

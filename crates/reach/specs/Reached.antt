@@ -20,13 +20,11 @@ pub record IsWalkOf (position : Position) (company : Company) (steps : List Walk
 
 -- a link is reached: a walk of the company touches it
 abbrev pub ReachesLink : Position → Company → Link → Type 0
-ReachesLink position company link =
-    (steps : List WalkStep) × IsWalkOf position company steps × TouchesLink link steps
+ReachesLink position company link = (steps : List WalkStep) × IsWalkOf position company steps × TouchesLink link steps
 
 -- a stop is reached: the company has a token there, or a walk of the company touches it
 abbrev pub ReachesStop : Position → Company → Stop → Type 0
-ReachesStop position company stop =
-    ((joined_stop_of stop ≡ stop) × HasToken position stop company)
+ReachesStop position company stop = ((joined_stop_of stop ≡ stop) × HasToken position stop company)
     ⊎ ((steps : List WalkStep) × IsWalkOf position company steps × TouchesStop stop steps)
 
 -- the number of places for stops on the map: two for each of its 93 hexes
@@ -40,8 +38,7 @@ stop_order stop = 2 * index_of stop.hex + stop_index_of stop.number
 -- things are in order, each before all that come later, and so none twice
 abbrev pub AreSortedBy : {A : Type 0} → (A → ℕ) → List A → Type 0
 AreSortedBy order [] = Unit {0}
-AreSortedBy order (thing ∷ later) = AllByRecursion (λ other. order thing < order other) later
-    × AreSortedBy order later
+AreSortedBy order (thing ∷ later) = AllByRecursion (λ other. order thing < order other) later × AreSortedBy order later
 
 -- what is said to be reached: stops and links
 pub record Reaching : Type 0 where

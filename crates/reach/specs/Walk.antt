@@ -39,8 +39,7 @@ stop_of spot = stop_at_end spot.hex spot.end
 -- the other side of the border at an end of a hex; there is none off the map, where the border is
 -- closed, and at a stop
 abbrev pub across_end : Hex → TrackEnd → Option Spot
-across_end hex (AtSide side) =
-    option_map (λ other. spot_at other (AtSide (facing_of side))) (neighbour_of hex side)
+across_end hex (AtSide side) = option_map (λ other. spot_at other (AtSide (facing_of side))) (neighbour_of hex side)
 across_end hex (AtStop number) = None
 
 -- the other side of the border at a spot

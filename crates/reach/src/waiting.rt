@@ -16,7 +16,7 @@ struct HeldSpot {
 }
 
 /// What fills the unused part: the place of no end. (Zeros would join the marks beside it to one
-/// area of over 2 KB, which is cleared byte by byte.)
+/// area of more than 2 KB, which is cleared byte by byte.)
 const NO_END: u8 = 255;
 
 impl HeldSpot {

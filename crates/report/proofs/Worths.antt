@@ -1,5 +1,5 @@
 -- What a player is worth is summed up value by value. It fits: no account that a list makes is over
--- 2 to the power of 100, and no price over 350.
+-- 2 to the power of 100, and no price more than 350.
 use Rattle.std.proofs.Common.{◌≡◌, ℕ, ◌+◌, ◌^◌, ◌<◌, ◌≤◌, List, length, take, get_or, sum_by, pos, ℤ, ◌+ℤ◌, arith}
 use Rattle.std.proofs.lemmas.Int.{ints}
 use Rattle.std.proofs.lemmas.List.Sums.{sum_by_more}

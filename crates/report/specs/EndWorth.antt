@@ -39,8 +39,7 @@ worth_of game seat = cash_of game.seats game.events (party_at seat) +ℤ pos
 
 -- the line of what a player is worth
 abbrev pub worth_line : List ℕ → Game → Seat → List ℕ
-worth_line file game seat = line_of (codes "WORTH")
-    (name_of file seat ∷ signed_decimal (worth_of game seat) ∷ [])
+worth_line file game seat = line_of (codes "WORTH") (name_of file seat ∷ signed_decimal (worth_of game seat) ∷ [])
 
 -- the lines of all players, in the order of their seats
 unfoldable pub worth_lines : List ℕ → Game → List ℕ

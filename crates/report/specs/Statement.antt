@@ -58,10 +58,8 @@ holdings events seat = flat_map (λ company. shares_column events company (OfSea
 
 -- a player's line
 unfoldable pub player_line : List ℕ → Game → Seat → List ℕ
-player_line file game seat =
-    codes "PLAYER " ++ left_aligned 8 (name_of file seat) ++ cash_column game (party_at seat)
-    ++ counted_column game.events seat ++ holdings game.events seat
-    ++ codes_owned game.events seat ++ 10 ∷ []
+player_line file game seat = codes "PLAYER " ++ left_aligned 8 (name_of file seat) ++ cash_column game (party_at seat)
+    ++ counted_column game.events seat ++ holdings game.events seat ++ codes_owned game.events seat ++ 10 ∷ []
 
 -- the name of a company's president
 abbrev pub president_name : List ℕ → Option Seat → List ℕ
@@ -71,8 +69,7 @@ president_name file (Some seat) = name_of file seat
 -- a company's cash, the price of its square, its shares in the initial offering and the bank pool,
 -- and the tokens that it has placed
 unfoldable pub company_figures : Game → Company → Square → List ℕ
-company_figures game company square =
-    cash_column game (party.Holder (holder.Company company))
+company_figures game company square = cash_column game (party.Holder (holder.Company company))
     ++ right_aligned 4 (decimal (price_of square))
     ++ shares_column game.events company InitialOffering ++ shares_column game.events company BankPool
     ++ right_aligned 2 (decimal (tokens_placed game.events company))

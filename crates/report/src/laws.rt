@@ -19,7 +19,7 @@ pub fn some_report()
 }
 
 /// States that two accepted files of the same players have reports that differ only in the version
-/// of the first line, under three conditions. Each seat has a sheet for a round in both files or in
+/// of the first line, on three conditions. Each seat has a sheet for a round in both files or in
 /// none. The lines of these sheets are read the same. The unread lines have the same faults in the
 /// same order.
 pub fn same_parts_same_report()
@@ -38,9 +38,9 @@ pub fn plain_reports()
 }
 
 /// States that the order in which the sheets of different players arrive changes nothing in the
-/// report. Two accepted files of one version and the same players have the same report under two
-/// conditions. Each player sent the same sheets in the same order, and the unread lines have the
-/// same faults in the same order.
+/// report. Two accepted files of one version and the same players have the same report on two
+/// conditions. Each player sent the same sheets in the same order, and the unread lines have
+/// the same faults in the same order.
 pub fn arrival_changes_no_report()
     ensures { ArrivalChangesNoReport }
 {

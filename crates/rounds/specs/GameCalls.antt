@@ -57,17 +57,15 @@ PlayedCalls file (Operating set number) = OperatingCalls file (Operating set num
 
 -- between two rounds, once a round of a set of this many operating rounds has led to a game
 abbrev pub between_after : Round → ℕ → Game → Between
-between_after round in_set game =
-    record {
-      game = game;
-      in_set = in_set_before (coming round in_set game.events) game.events in_set;
-      next = coming round in_set game.events;
-    }
+between_after round in_set game = record {
+  game = game;
+  in_set = in_set_before (coming round in_set game.events) game.events in_set;
+  next = coming round in_set game.events;
+}
 
 -- the course of the next round, for which every seat has a sheet
 abbrev pub RoundCalls : List ℕ → Course Between Between PlayFault
-RoundCalls file old outcome calls =
-    (round : Round) × IsToPlay file old.next round ×
+RoundCalls file old outcome calls = (round : Round) × IsToPlay file old.next round ×
     Then (PlayedCalls file round) (Unasked Memory (λ game new. new ≡ between_after round old.in_set game)) old.game
     outcome calls
 

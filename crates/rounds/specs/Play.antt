@@ -43,12 +43,11 @@ coming round in_set events = if bankrupt_in events then next.Ended else followin
 
 -- before the first round
 abbrev pub before_play : List ℕ → Between
-before_play file =
-    record {
-      game = record { seats = length (players_of file); events = [] };
-      in_set = rounds_of_new_set [];
-      next = next.Round (Opening 1);
-    }
+before_play file = record {
+  game = record { seats = length (players_of file); events = [] };
+  in_set = rounds_of_new_set [];
+  next = next.Round (Opening 1);
+}
 
 -- a round comes next, and every seat has a sheet for it
 abbrev pub goes_on : List ℕ → Next → Bool

@@ -12,10 +12,8 @@ use Rattle.tables.specs.declared.round.Round.TheVariants.{Opening, Stock, Operat
 abbrev pub following : Round → ℕ → Bool → Bool → Next
 following (Opening number) in_set all_sold broken = next.Round (if all_sold then Stock 1 else Opening (number + 1))
 following (Stock set) in_set all_sold broken = next.Round (Operating set 1)
-following (Operating set number) in_set all_sold broken =
-    if nat_lt number in_set
-    then next.Round (Operating set (number + 1))
-    else (if broken then next.Ended else next.Round (Stock (set + 1)))
+following (Operating set number) in_set all_sold broken = if nat_lt number in_set
+    then next.Round (Operating set (number + 1)) else (if broken then next.Ended else next.Round (Stock (set + 1)))
 
 -- an operating round's place in its set; 0 for other rounds
 abbrev pub turn_in_set : Round → ℕ

@@ -102,8 +102,7 @@ StepLeads old (Err fault) new = BreaksOff old fault new
 -- the calls of a step from here to there: those of the round that comes next, if one can be played,
 -- otherwise none
 abbrev pub CallsBetween : List ℕ → Result Between PlayFault → Result Between PlayFault → List Call → Type 0
-CallsBetween file (Ok from) to calls =
-    ((goes_on file from.next ≡ true) × RoundCalls file from to calls)
+CallsBetween file (Ok from) to calls = ((goes_on file from.next ≡ true) × RoundCalls file from to calls)
     ⊎ ((goes_on file from.next ≡ false) × (calls ≡ []))
 CallsBetween file (Err fault) to calls = calls ≡ []
 

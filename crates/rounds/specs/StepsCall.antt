@@ -12,8 +12,7 @@ use Rattle.tables.specs.declared.round.Round.{Round}
 -- this many steps from the start of a file, each of which played a round, made these calls
 abbrev pub StepsCall : ℕ → List ℕ → Underway → List Call → Type 0
 StepsCall zero file play calls = (play ≡ started file) × (calls ≡ [])
-StepsCall (suc steps) file play calls =
-    (mid : Underway) × (before : List Call) × StepsCall steps file mid before
+StepsCall (suc steps) file play calls = (mid : Underway) × (before : List Call) × StepsCall steps file mid before
     × (round : Round) × PlaysNext mid round play × (its : List Call) × StepCalls mid play its × (calls ≡ before ++ its)
 
 -- once play has stopped they are the calls of the game of the file

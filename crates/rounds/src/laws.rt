@@ -212,7 +212,7 @@ pub fn same_sheets_are_read_alike()
     ensures { SameSheetsAreReadAlike }
 {}
 
-/// States that two files of the same players have the same game under two conditions. Each seat has
+/// States that two files of the same players have the same game on two conditions. Each seat has
 /// a sheet for a round in both files or in none, and its lines are read the same.
 pub fn same_parts_same_game()
     ensures { SamePartsSameGame }

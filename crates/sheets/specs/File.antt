@@ -21,29 +21,26 @@ use Rattle.sheets.specs.Text.{written_lines}
 use Rattle.sheets.specs.declared.fault.FileFault.{FileFault}
 use Rattle.sheets.specs.declared.fault.FileFault.TheVariants.{Header, Players, TooLong, TooManySheets, Memory}
 use Rattle.sheets.specs.declared.sheet_key.SheetKey.{SheetKey}
-use Rattle.tables.specs.RuleTexts.{RuleText, rule_text}
 use Rattle.tables.specs.Round.{same_round}
 use Rattle.tables.specs.declared.round.Round.{Round}
 use Rattle.tables.specs.declared.seat.Seat.{Seat}
 
--- the text of a fault of a file
-abbrev pub text_of_fault : FileFault → RuleText
-text_of_fault Header =
-    rule_text (codes "F1")
-    (codes "the first line that is not blank is neither `GAME 1830 1` nor `GAME 1830 2`")
-text_of_fault Players = rule_text (codes "F2") (codes "the next line does not name three to six different players")
-text_of_fault TooLong = rule_text (codes "F3") (codes "the file has over 67,108,864 bytes")
-text_of_fault TooManySheets = rule_text (codes "F4") (codes "the file has over 65,536 good SHEET lines")
-text_of_fault Memory = rule_text (codes "F5") (codes "allocation failed")
-
 -- the code of a fault, which the report of a refused file prints; no report prints that of a failed
 -- allocation, since the file is not refused
 abbrev pub code_of_fault : FileFault → List ℕ
-code_of_fault fault = (text_of_fault fault).code
+code_of_fault Header = codes "F1"
+code_of_fault Players = codes "F2"
+code_of_fault TooLong = codes "F3"
+code_of_fault TooManySheets = codes "F4"
+code_of_fault Memory = codes "F5"
 
 -- what is wrong, in a player's words
 abbrev pub sentence_of_fault : FileFault → List ℕ
-sentence_of_fault fault = (text_of_fault fault).sentence
+sentence_of_fault Header = codes "the first line that is not blank is neither `GAME 1830 1` nor `GAME 1830 2`"
+sentence_of_fault Players = codes "the next line does not name three to six different players"
+sentence_of_fault TooLong = codes "the file has more than 67,108,864 bytes"
+sentence_of_fault TooManySheets = codes "the file has more than 65,536 good SHEET lines"
+sentence_of_fault Memory = codes "allocation failed"
 
 -- the version with this number
 abbrev pub version_numbered : ℕ → Option Version
@@ -149,15 +146,8 @@ unread_fault version line = fault_of_reading (order_read (reading_in version lin
 abbrev pub unread_in : Version → List (List ℕ) → Bool → List (List ℕ) → List Fault
 unread_in version players inside [] = []
 unread_in version players inside (line ∷ lines) =
-    if is_sheet_line line
-    then
-    (if is_some (begins players line)
-    then unread_in version players true lines
-    else unread_fault version line ∷ unread_in version players false lines)
-    else
-    (if inside
-    then unread_in version players true lines
-    else unread_fault version line ∷ unread_in version players false lines)
+    if (if is_sheet_line line then is_some (begins players line) else inside) then
+    unread_in version players true lines else unread_fault version line ∷ unread_in version players false lines
 
 -- a file that is not refused: its players, and the lines after their line
 pub record Content : Type 0 where

@@ -36,11 +36,7 @@ reading_at number reading = if nat_lt lines_most number then Err PastLastLine el
 -- the line with this number that by itself reads so
 abbrev pub numbered : ℕ → Result Ordered Fault → Numbered
 numbered number reading =
-    record {
-      number = number;
-      condition = condition_at number reading;
-      reading = reading_at number (order_read reading);
-    }
+    record { number = number; condition = condition_at number reading; reading = reading_at number (order_read reading) }
 
 -- a line that was read, where it stands
 abbrev pub line_read : NumberedLine → Numbered
@@ -95,8 +91,7 @@ pub record SheetParts : Type 0 where
 
 -- a head before these parts: it opens the lines that came first
 abbrev pub after_head : Numbered → SheetParts → SheetParts
-after_head head parts =
-    record { before = []; opened = record { head = head; lines = parts.before } ∷ parts.opened }
+after_head head parts = record { before = []; opened = record { head = head; lines = parts.before } ∷ parts.opened }
 
 -- a line that is no head before these parts
 abbrev pub after_line : Numbered → SheetParts → SheetParts

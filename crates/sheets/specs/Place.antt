@@ -7,19 +7,13 @@ use Rattle.order_grammar.specs.declared.fault.Fault.TheVariants.{OutOfPlace}
 use Rattle.order_grammar.specs.declared.order.Order.{Order}
 use Rattle.order_grammar.specs.declared.order.Order.TheVariants as order
 
--- the order belongs to the file and its sheets, or to the text of a certificate, and is no order of
--- play: it has a place in no part
+-- the order belongs to the file and its sheets, or to the text of a certificate, and has a place in
+-- no part: all orders do but those of play and a line without words
 abbrev pub is_of_file : Order → Bool
-is_of_file (order.Game game version) = true
-is_of_file (order.Players names) = true
-is_of_file (order.Sheet name round) = true
-is_of_file order.Turn = true
-is_of_file (order.Company company) = true
-is_of_file order.Certs = true
-is_of_file (order.Cert round company revenue) = true
-is_of_file (order.Claim kind run) = true
-is_of_file order.Marks = true
-is_of_file other = false
+is_of_file order.Blank = false
+is_of_file (order.Play its) = false
+is_of_file (order.Run kind run) = false
+is_of_file other = true
 
 -- what a line with this reading is, if the orders that pass this test have a place
 abbrev pub placed : (Order → Bool) → Result Order Fault → Result Order Fault

@@ -17,9 +17,9 @@ pub enum FileFault {
     Header,
     /// F2: the next line does not name three to six different players.
     Players,
-    /// F3: the file has over 67,108,864 bytes.
+    /// F3: the file has more than 67,108,864 bytes.
     TooLong,
-    /// F4: the file has over 65,536 good SHEET lines.
+    /// F4: the file has more than 65,536 good SHEET lines.
     TooManySheets,
     /// F5: allocation failed.
     Memory,
@@ -33,9 +33,9 @@ static FILE_FAULTS: [RuleRow<FileFault>; FileFault::Memory as usize + 1] = rule_
     Players: "F2", "the next line does not name three to six different players",
         "write `PLAYERS` and the names: each a letter and up to seven letters or digits",
         Some("F2-two-players"),
-    TooLong: "F3", "the file has over 67,108,864 bytes",
+    TooLong: "F3", "the file has more than 67,108,864 bytes",
         "take out comments, and sheets that later ones replace", None,
-    TooManySheets: "F4", "the file has over 65,536 good SHEET lines",
+    TooManySheets: "F4", "the file has more than 65,536 good SHEET lines",
         "take out sheets that later ones replace", None,
     Memory: "F5", "allocation failed",
         "free memory, and run the program again", None,

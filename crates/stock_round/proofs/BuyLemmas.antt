@@ -21,7 +21,7 @@ use Rattle.totals.specs.Shares.{is_started, shares_of, square_of}
 use Rattle.order_grammar.specs.declared.order.ShareSource.{ShareSource}
 use Rattle.stock_round.proofs.FloatLemmas.{in_what_follows}
 use Rattle.stock_round.proofs.PriceLemmas.{paid, same_price, same_purse}
-use Rattle.stock_round.specs.Buy.{MayBuy, after_purchase, buy_judgement, share_bought}
+use Rattle.stock_round.specs.Buy.{MayBuy, after_purchase, share_bought}
 use Rattle.tables.proofs.Rules.{not_broken}
 use Rattle.tables.specs.declared.roster.Company.{Company}
 use Rattle.tables.specs.declared.seat.Seat.{Seat}
@@ -32,7 +32,8 @@ use Rattle.turns.specs.Acted.{SaysWhoActed}
 
 -- a share can be bought
 pub purchase_allowed : (game : Game) (seat : Seat) (company : Company) (from : ShareSource) (bought : Option Company)
-    → buy_judgement game seat company from bought ≡ None → MayBuy game seat company from
+    → purchase_judgement game.seats game.events seat (purchase.Share company from) bought ≡ None
+    → MayBuy game seat company from
 unfolding purchase_judgement
 purchase_allowed game seat company from bought none =
     let kept = not_broken code_of_stock_rule

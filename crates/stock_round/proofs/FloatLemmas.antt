@@ -15,7 +15,7 @@ use Rattle.history.specs.Record.{breaks, with_broken}
 use Rattle.history.specs.Sound.{IsLed, IsSound}
 use Rattle.totals.specs.LookBack.{Game, with_event}
 use Rattle.totals.specs.Shares.{is_floated, par_of, president_of, shares_of, square_of}
-use Rattle.stock_round.specs.Float.{float_most, floated_at, is_to_float, with_float}
+use Rattle.stock_round.specs.Float.{floated_at, is_to_float, with_float}
 use Rattle.tables.specs.declared.roster.Company.{Company}
 use Rattle.tables.specs.declared.seat.Seat.{Seat}
 use Rattle.tables.specs.declared.squares.Square.{Square}
@@ -24,7 +24,7 @@ use Rattle.history.specs.Games.{IsGame}
 use Rattle.turns.specs.Acted.{SaysWhoActed}
 
 -- a company that is to float has few shares left
-few_left : (floated : Bool) (left : ℤ) → (not floated && not (lt_z (pos float_most) left)) ≡ true → left ≤ℤ pos 4
+few_left : (floated : Bool) (left : ℤ) → (not floated && not (lt_z (pos 4) left)) ≡ true → left ≤ℤ pos 4
 few_left true left is = absurd (cc)
 few_left false left is = grind (arith, ints, is)
 

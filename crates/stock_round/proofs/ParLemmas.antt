@@ -17,7 +17,7 @@ use Rattle.totals.specs.LookBack.{Game, with_event, with_events}
 use Rattle.totals.specs.Shares.{square_of}
 use Rattle.order_grammar.specs.declared.order.ShareSource.TheVariants.{InitialOffering}
 use Rattle.stock_round.proofs.PriceLemmas.{paid, same_purse}
-use Rattle.stock_round.specs.Par.{MayStart, after_start, par_judgement, president_shares}
+use Rattle.stock_round.specs.Par.{MayStart, after_start, president_shares}
 use Rattle.tables.proofs.Rules.{not_broken}
 use Rattle.tables.specs.declared.roster.Company.{Company}
 use Rattle.tables.specs.declared.seat.Seat.{Seat}
@@ -28,7 +28,8 @@ use Rattle.turns.specs.Acted.{SaysWhoActed}
 
 -- a company can be started where no rule is broken
 pub start_allowed : (game : Game) (seat : Seat) (company : Company) (price : ℕ) (bought : Option Company)
-    → par_judgement game seat company price bought ≡ None → MayStart game seat company price
+    → purchase_judgement game.seats game.events seat (purchase.Par company price) bought ≡ None
+    → MayStart game seat company price
 unfolding purchase_judgement
 start_allowed game seat company price bought none =
     let kept = not_broken code_of_stock_rule

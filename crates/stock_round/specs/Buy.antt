@@ -2,24 +2,17 @@
 -- value, one of the bank pool the market price. Its rules are those of a purchase, which are defined
 -- with the certificates, and so is the presidency that passes to a seat that then has strictly more
 -- shares than the president.
-use Rattle.std.specs.Prelude.{◌≡◌, true, false, Option}
-use Rattle.certs.specs.Purchase.{is_sold_out_there, is_short_of_cash, purchase_judgement, share_price_of}
+use Rattle.std.specs.Prelude.{◌≡◌, true, false}
+use Rattle.certs.specs.Purchase.{is_sold_out_there, is_short_of_cash, share_price_of}
 use Rattle.certs.specs.SaleAct.{with_president}
 use Rattle.certs.specs.declared.share_deal.Purchase.TheVariants as purchase
 use Rattle.events.specs.declared.event.Event.TheVariants as event
-use Rattle.events.specs.declared.ruling.StockRule.{StockRule}
 use Rattle.totals.specs.LookBack.{Game, with_event}
 use Rattle.totals.specs.Shares.{is_started}
 use Rattle.order_grammar.specs.declared.order.ShareSource.{ShareSource}
 use Rattle.stock_round.specs.Float.{with_float}
 use Rattle.tables.specs.declared.roster.Company.{Company}
 use Rattle.tables.specs.declared.seat.Seat.{Seat}
-
--- the first rule that a seat breaks if it buys a share from there, in a turn in which it has bought
--- of this company, if it has bought
-abbrev pub buy_judgement : Game → Seat → Company → ShareSource → Option Company → Option StockRule
-buy_judgement game seat company from bought =
-    purchase_judgement game.seats game.events seat (purchase.Share company from) bought
 
 -- the seat can buy a share of the company from there
 pub record MayBuy (game : Game) (seat : Seat) (company : Company) (from : ShareSource) : Type 0 where

@@ -1,7 +1,7 @@
 -- EXCHANGE: the owner of MH gives it up for a share of NYC, even before NYC is started. The share
 -- comes from the initial offering, or from the bank pool if the initial offering has none. The owner
--- may not hold over six shares then, if the zone of NYC's square limits that. It costs nothing.
-use Rattle.std.specs.Prelude.{◌≡◌, ℕ, Bool, false, not, ◌||◌, if◌then◌else◌, List, [], ◌∷◌, Option, pos}
+-- may not hold more than six shares then, if the zone of NYC's square limits that. It costs nothing.
+use Rattle.std.specs.Prelude.{◌≡◌, Bool, false, not, ◌||◌, if◌then◌else◌, List, [], ◌∷◌, Option, pos}
 use Rattle.std.specs.Int.Signed.{lt_z}
 use Rattle.certs.specs.Purchase.{is_over_six}
 use Rattle.certs.specs.SaleAct.{with_president}
@@ -28,16 +28,11 @@ is_offered events = lt_z (pos 0) (shares_of events NewYorkCentral InitialOfferin
 abbrev pub is_pooled : List Event → Bool
 is_pooled events = lt_z (pos 0) (shares_of events NewYorkCentral BankPool)
 
--- how many shares are given for MH
-abbrev pub exchange_shares : ℕ
-exchange_shares = 1
-
 -- The seat may not give up MH for a share of NYC. It does not own MH, or neither the initial
--- offering nor the pool has one, or the seat would hold over six shares.
+-- offering nor the pool has one, or the seat would hold more than six shares with this 1 more.
 abbrev pub is_no_exchange : List Event → Seat → Bool
-is_no_exchange events seat =
-    not (is_owner seat (owner_of events MohawkHudson))
-    || (not (is_offered events || is_pooled events) || is_over_six events seat NewYorkCentral exchange_shares)
+is_no_exchange events seat = not (is_owner seat (owner_of events MohawkHudson))
+    || (not (is_offered events || is_pooled events) || is_over_six events seat NewYorkCentral 1)
 
 -- the rule that an exchange may break
 abbrev pub exchange_rules : List Event → Seat → List (Rule StockRule)

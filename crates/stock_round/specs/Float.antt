@@ -10,14 +10,10 @@ use Rattle.history.specs.Record.{broken_recorded}
 use Rattle.totals.specs.LookBack.{Game, with_event, with_events}
 use Rattle.tables.specs.declared.roster.Company.{Company}
 
--- the most shares that are left in the initial offering of a company that floats
-abbrev pub float_most : ℕ
-float_most = 4
-
--- few enough shares are left in the initial offering, and the company has not floated
+-- at most 4 shares are left in the initial offering, and the company has not floated
 abbrev pub is_to_float : List Event → Company → Bool
 is_to_float events company = not (is_floated events company)
-    && not (lt_z (pos float_most) (shares_of events company InitialOffering))
+    && not (lt_z (pos 4) (shares_of events company InitialOffering))
 
 -- with FLOATS for a company with this par value, and BROKEN if that breaks the bank
 abbrev pub floated_at : Game → Company → ℕ → Game
@@ -25,7 +21,6 @@ floated_at game company par = broken_recorded (with_event game (event.Floats com
 
 -- with FLOATS if a company floats
 abbrev pub with_float : Game → Company → Game
-with_float game company =
-    with_events game
+with_float game company = with_events game
     (if is_to_float game.events company then (floated_at game company (unwrap_or (par_of game.events company) 0)).events
     else game.events)

@@ -3,7 +3,10 @@
 -- share of NYC (EXCHANGE). Any other order breaks the first rule. What an order needs so that it can
 -- be done is those of its rules that depend on what the game has, and not on what was done before in
 -- the turn or the round. They are kept after the ruling as they were before it.
-use Rattle.std.specs.Prelude.{Option, Some, option_map}
+use Rattle.std.specs.Prelude.{Option, Some, None, option_map}
+use Rattle.certs.specs.Purchase.{purchase_judgement}
+use Rattle.certs.specs.Sale.{sale_judgement}
+use Rattle.certs.specs.declared.share_deal.Purchase.TheVariants as purchase
 use Rattle.events.specs.declared.ruling.Refusal.{Refusal}
 use Rattle.events.specs.declared.ruling.Refusal.TheVariants.{Stock}
 use Rattle.events.specs.declared.ruling.StockRule.{StockRule}
@@ -11,10 +14,10 @@ use Rattle.events.specs.declared.ruling.StockRule.TheVariants.{NotOfStock}
 use Rattle.order_grammar.specs.declared.order.Order.{Order}
 use Rattle.order_grammar.specs.declared.order.Order.TheVariants.{Play}
 use Rattle.order_grammar.specs.declared.play.PlayOrder.TheVariants.{Par, BuyShare, Sell, ExchangeMohawk}
-use Rattle.stock_round.specs.Buy.{MayBuy, after_purchase, buy_judgement}
+use Rattle.stock_round.specs.Buy.{MayBuy, after_purchase}
 use Rattle.stock_round.specs.Exchange.{MayExchange, after_exchange, exchange_judgement}
-use Rattle.stock_round.specs.Par.{MayStart, after_start, par_judgement}
-use Rattle.stock_round.specs.Sell.{MaySell, after_sale, sale_of, sell_judgement}
+use Rattle.stock_round.specs.Par.{MayStart, after_start}
+use Rattle.stock_round.specs.Sell.{MaySell, after_sale, sale_of}
 use Rattle.tables.specs.declared.roster.Company.{Company}
 use Rattle.tables.specs.declared.seat.Seat.{Seat}
 use Rattle.totals.specs.LookBack.{Game}
@@ -22,9 +25,12 @@ use Rattle.totals.specs.LookBack.{Game}
 -- The first rule that an order breaks in a turn in which the seat has bought of this company, if it
 -- has bought. Any order but these four breaks the first.
 abbrev pub stock_judgement : Game → Seat → Option Company → Order → Option StockRule
-stock_judgement game seat bought (Play (Par company price)) = par_judgement game seat company price bought
-stock_judgement game seat bought (Play (BuyShare company from)) = buy_judgement game seat company from bought
-stock_judgement game seat bought (Play (Sell company shares)) = sell_judgement game seat company shares
+stock_judgement game seat bought (Play (Par company price)) =
+    purchase_judgement game.seats game.events seat (purchase.Par company price) bought
+stock_judgement game seat bought (Play (BuyShare company from)) =
+    purchase_judgement game.seats game.events seat (purchase.Share company from) bought
+stock_judgement game seat bought (Play (Sell company shares)) =
+    sale_judgement game.seats game.events seat (sale_of company shares) None
 stock_judgement game seat bought (Play ExchangeMohawk) = exchange_judgement game seat
 stock_judgement game seat bought other = Some NotOfStock
 

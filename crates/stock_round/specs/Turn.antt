@@ -48,12 +48,11 @@ after_stock_line seats seat turn line =
 -- the rules of a stock round: a seat that bought or sold has acted, and the turns are over once all
 -- seats have passed in succession
 abbrev pub stock_rules : RoundRules ShareDeals
-stock_rules =
-    record {
-      standing = after_stock_standing_line;
-      nothing = no_deals;
-      line = after_stock_line;
-      has_acted = has_acted;
-      over = λ events. false;
-      closed = λ seats events. stock_round_closed events;
-    }
+stock_rules = record {
+  standing = after_stock_standing_line;
+  nothing = no_deals;
+  line = after_stock_line;
+  has_acted = has_acted;
+  over = λ events. false;
+  closed = λ seats events. stock_round_closed events;
+}

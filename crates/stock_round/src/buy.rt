@@ -5,8 +5,10 @@
 //!
 //! The rules are those of a purchase in `certs` (`share_purchase_rules`).
 ghost use Rattle.std.specs.Prelude.{◌≡◌, ◌<◌, OnOk};
+ghost use Rattle.certs.specs.Purchase.{purchase_judgement};
+ghost use Rattle.certs.specs.declared.share_deal.Purchase.TheVariants as purchase;
 ghost use Rattle.history.specs.Games.{IsGame};
-ghost use Rattle.stock_round.specs.Buy.{MayBuy, after_purchase, buy_judgement, share_bought};
+ghost use Rattle.stock_round.specs.Buy.{MayBuy, after_purchase, share_bought};
 
 use crate::float::record_float;
 use crate::prices::share_cost;
@@ -25,7 +27,8 @@ pub(crate) fn judge(
     from: ShareSource,
     bought: Option<Company>,
 ) -> Option<StockRule>
-    ensures { result ≡ buy_judgement history.now seat company from bought }
+    ensures { result ≡ purchase_judgement history.now.seats history.now.events seat
+        (purchase.Share company from) bought }
 {
     may_buy(history, seat, Purchase::Share { company, from }, bought).err()
 }

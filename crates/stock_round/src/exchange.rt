@@ -29,7 +29,7 @@ pub(crate) fn judge(history: &History, seat: Seat) -> Option<StockRule>
 }
 
 /// Returns whether a seat may not exchange MH: it does not own MH, no share of NYC is available, or
-/// the seat would have over six.
+/// the seat would have more than six.
 pub fn is_no_exchange(history: &History, seat: Seat) -> bool
     ensures { result ≡ is_no_exchange history.now.events seat }
 {

@@ -3,8 +3,10 @@
 //!
 //! The rules are those of a purchase in `certs` (`share_purchase_rules`).
 ghost use Rattle.std.specs.Prelude.{◌≡◌, ◌<◌, OnOk};
+ghost use Rattle.certs.specs.Purchase.{purchase_judgement};
+ghost use Rattle.certs.specs.declared.share_deal.Purchase.TheVariants as purchase;
 ghost use Rattle.history.specs.Games.{IsGame};
-ghost use Rattle.stock_round.specs.Par.{MayStart, after_start, par_judgement};
+ghost use Rattle.stock_round.specs.Par.{MayStart, after_start};
 
 use certs::{Purchase, may_buy};
 use history::{Event, History, StockRule};
@@ -21,7 +23,8 @@ pub(crate) fn judge(
     price: Amount,
     bought: Option<Company>,
 ) -> Option<StockRule>
-    ensures { result ≡ par_judgement history.now seat company price bought }
+    ensures { result ≡ purchase_judgement history.now.seats history.now.events seat
+        (purchase.Par company price) bought }
 {
     may_buy(history, seat, Purchase::Par { company, price }, bought).err()
 }

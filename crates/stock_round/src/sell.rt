@@ -3,9 +3,10 @@
 //! square for each share.
 //!
 //! The rules are those of a sale in `certs` (`sale_rules`).
-ghost use Rattle.std.specs.Prelude.{◌≡◌, ◌<◌, OnOk};
+ghost use Rattle.std.specs.Prelude.{◌≡◌, ◌<◌, None, OnOk};
+ghost use Rattle.certs.specs.Sale.{sale_judgement};
 ghost use Rattle.history.specs.Games.{IsGame};
-ghost use Rattle.stock_round.specs.Sell.{MaySell, after_sale, sale_of, sell_judgement};
+ghost use Rattle.stock_round.specs.Sell.{MaySell, after_sale, sale_of};
 
 use certs::{Sale, may_sell, sell_block};
 use history::{History, StockRule};
@@ -20,7 +21,8 @@ pub(crate) fn judge(
     company: Company,
     shares: Amount,
 ) -> Option<StockRule>
-    ensures { result ≡ sell_judgement history.now seat company shares }
+    ensures { result ≡ sale_judgement history.now.seats history.now.events seat
+        (sale_of company shares) None }
 {
     may_sell(history, seat, Sale { company, shares }, None).err()
 }

@@ -23,7 +23,7 @@ company_is_same a b is = eq-eqb (index_of_company a) (index_of_company b) (ap in
 pub company_itself : (company : Company) → same_company company company ≡ true
 company_itself company = company_is_same company company refl
 
--- each place is under 8
+-- each place is less than 8
 pub company_low : (company : Company) → index_of_company company < 8
 company_low Pennsylvania = omega arith
 company_low _ = omega arith

@@ -89,14 +89,9 @@ price_in (Some entry) = entry.price
 abbrev pub price_of : Square → ℕ
 price_of square = price_in (entry_at square.row square.column)
 
--- the zone of an entry
-abbrev pub zone_in : Option Entry → Zone
-zone_in None = White
-zone_in (Some entry) = entry.zone
-
--- the zone in which a square lies
+-- the zone in which a square lies; white off the chart
 abbrev pub zone_of : Square → Zone
-zone_of square = zone_in (entry_at square.row square.column)
+zone_of square = elim (entry_at square.row square.column) [ Some entry ↦ entry.zone | None ↦ White ]
 
 -- an entry is marked as a par value
 abbrev pub is_par : Option Entry → Bool
@@ -107,9 +102,8 @@ is_par (Some entry) = entry.is_par
 abbrev pub par_squares_in : ℕ → ℕ → List (Option Entry) → List Square
 par_squares_in row column [] = []
 par_squares_in row column (entry ∷ others) =
-    if is_par entry
-    then record { row = row; column = column } ∷ par_squares_in row (column + 1) others
-    else par_squares_in row (column + 1) others
+    if is_par entry then record { row = row; column = column } ∷ par_squares_in row (column + 1) others else
+    par_squares_in row (column + 1) others
 
 -- the squares of some rows that are marked as par values
 abbrev pub par_squares_from : ℕ → List (List (Option Entry)) → List Square

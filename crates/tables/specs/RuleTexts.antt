@@ -4,15 +4,6 @@ use Rattle.std.specs.Cmp.Lexicographic.{pointwise}
 use Rattle.std.specs.Str.{str_to_ascii_lowercase}
 use Rattle.tables.specs.declared.rule_table.RuleRow.{RuleRow}
 
--- the text of a rule: the code that a report prints, and what is wrong, in a player's words
-pub record RuleText : Type 0 where
-  pub code : List ℕ
-  pub sentence : List ℕ
-
--- the text with this code and this sentence
-abbrev pub rule_text : List ℕ → List ℕ → RuleText
-rule_text code sentence = record { code = code; sentence = sentence }
-
 -- whether a word is the code, in letters of either case
 abbrev pub HasCode : List ℕ → List ℕ → Type 0
 HasCode word code = str_to_ascii_lowercase code ≡ str_to_ascii_lowercase word

@@ -30,27 +30,21 @@ code_of_kind Five = codes "5"
 code_of_kind Six = codes "6"
 code_of_kind Diesel = codes "D"
 
--- a price, and a number or none
-abbrev priced : ℕ → Option ℕ → Trains
-priced price number = record { price = price; number = number }
-
 -- the price and the number of the trains of a kind; D has no limit
 abbrev pub trains_of : Kind → Trains
-trains_of Two = priced 80 (Some 6)
-trains_of Three = priced 180 (Some 5)
-trains_of Four = priced 300 (Some 4)
-trains_of Five = priced 450 (Some 3)
-trains_of Six = priced 630 (Some 2)
-trains_of Diesel = priced 1100 None
+trains_of Two = record { price = 80; number = Some 6 }
+trains_of Three = record { price = 180; number = Some 5 }
+trains_of Four = record { price = 300; number = Some 4 }
+trains_of Five = record { price = 450; number = Some 3 }
+trains_of Six = record { price = 630; number = Some 2 }
+trains_of Diesel = record { price = 1100; number = None }
 
 -- the kind whose first train rusts the trains of a kind; 5, 6 and D never rust
 abbrev pub rusting_of : Kind → Option Kind
 rusting_of Two = Some Four
 rusting_of Three = Some Six
 rusting_of Four = Some Diesel
-rusting_of Five = None
-rusting_of Six = None
-rusting_of Diesel = None
+rusting_of other = None
 
 -- the most stops that a train of a kind visits in a run; D visits any number
 abbrev pub stops_of : Kind → Option ℕ
@@ -66,15 +60,11 @@ abbrev pub limit_of : Kind → ℕ
 limit_of Two = 4
 limit_of Three = 4
 limit_of Four = 3
-limit_of Five = 2
-limit_of Six = 2
-limit_of Diesel = 2
+limit_of other = 2
 
 -- the number of operating rounds of a set that begins in a phase
 abbrev pub rounds_in_set_of : Kind → ℕ
 rounds_in_set_of Two = 1
 rounds_in_set_of Three = 2
 rounds_in_set_of Four = 2
-rounds_in_set_of Five = 3
-rounds_in_set_of Six = 3
-rounds_in_set_of Diesel = 3
+rounds_in_set_of other = 3

@@ -95,7 +95,7 @@ abbrev pub TurnsEndOnce : Type 0 → Type 0 → Type 0
 TurnsEndOnce State Line =
     (play : Play State Line) (start a b : InPlay State Line) → TurnsEnd play start a → TurnsEnd play start b → a ≡ b
 
--- turns have an outcome soon, if no seat acts without lines and none has over 512 written turns
+-- turns have an outcome soon, if no seat acts without lines and none has more than 512 written turns
 abbrev pub TurnsEndSoon : Type 0 → Type 0 → Type 0
 TurnsEndSoon State Line =
     (play : Play State Line) (start : InPlay State Line) → IsIdleWithoutLines play → CanBegin play start

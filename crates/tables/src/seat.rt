@@ -6,10 +6,10 @@ ghost use Rattle.tables.specs.Roster.{bank_start_of, certificate_limit_of, start
 ghost use Rattle.tables.specs.Seat.{left_of, seat_at};
 
 /// Dollars that are added up. The type is wide enough for every list of events that memory can
-/// hold. The bank's cash may be under 0.
+/// hold. The bank's cash may be less than 0.
 pub type Money = i128;
 
-/// A sum of dollars in a table, an order or an event; never under 0.
+/// A sum of dollars in a table, an order or an event; never less than 0.
 pub type Amount = u32;
 
 /// Returns a sum of 0 to 1,000,000 dollars, as an event names it.
@@ -26,7 +26,7 @@ pub fn amount_of(sum: Money) -> Amount
 pub struct Seat(pub u8);
 
 impl Seat {
-    /// Returns the seat at a place in the order of the players line. The place is under 256.
+    /// Returns the seat at a place in the order of the players line. The place is less than 256.
     pub fn at(index: usize) -> Seat
         requires { index < 256 }
         ensures { result ≡ seat_at index }

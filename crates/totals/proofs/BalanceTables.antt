@@ -159,7 +159,7 @@ same_train_row (train_place.Company a) train_place.OutOfPlay =
     grind (arith, company_low a, eq-eqb (2 + index_of_company a) 10)
 same_train_row (train_place.Company a) (train_place.Company b) = plus_same 2 (index_of_company a) (index_of_company b)
 
--- a kind has a place under 8
+-- a kind has a place less than 8
 kind_low : (kind : Kind) → index_of_kind kind < 8
 kind_low kind = grind arith
 

@@ -17,7 +17,7 @@ chosen i k a b same = grind (arith, nat_tests)
 pub passed_over : (i k a b : ℕ) → i ≢ k → (if i == k then a else b) ≡ b
 passed_over i k a b apart = grind (arith, nat_tests)
 
--- a number that is not under 0 is itself
+-- a number that is not less than 0 is itself
 pub at_least_zero_is : (number : ℤ) → pos 0 ≤ℤ number → pos (at_least_zero number) ≡ number
 at_least_zero_is (pos n) low = refl
 at_least_zero_is (negsuc n) low = absurd (omega (arith, ints, low))

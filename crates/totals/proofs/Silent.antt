@@ -1,7 +1,7 @@
 -- A ruling that obeys no order that speaks of a thing, and the event that tells of it, say nothing
 -- of it.
 use Rattle.std.proofs.Common.{◌≡◌, ℕ, ◌==◌, Bool, true, false, if◌then◌else◌, Option, None, refl, subst, sym, ap, ◌∙◌}
-use Rattle.events.specs.Event.{Order, obeyed_by, obeyed_of}
+use Rattle.events.specs.Event.{Order, obeyed_of}
 use Rattle.events.specs.Orders.{said_by}
 use Rattle.events.specs.Packed.{Condition}
 use Rattle.events.specs.declared.event.Event.{Event}
@@ -20,7 +20,7 @@ no_word :
     {A : Type 0} (says : Order → Option A) (obeyed : Ruling → Option A) (by : Seat) (line : ℕ) (seat : Seat)
     (ruling : Ruling) →
     ((condition : Option Condition) (order : Order) → obeyed (Obeyed condition order) ≡ says order) →
-    None ≡ obeyed ruling → None ≡ said_by seat says (obeyed_by by line ruling)
+    None ≡ obeyed ruling → None ≡ said_by seat says (obeyed_of (Ruled by line ruling))
 no_word {A} says obeyed by line seat (Obeyed condition order) agree none =
     none_of (by.0 == seat.0) ∙ ap (λ (word : Option A). if by.0 == seat.0 then word else None)
     (none ∙ agree condition order)

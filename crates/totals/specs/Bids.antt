@@ -27,9 +27,8 @@ bid_of events private seat = now_said (λ event. bid_said private seat (bidding_
 
 -- how much a bid on a private is that is made here, if one is
 abbrev pub bid_made : Private → Option Bidding → Option ℕ
-bid_made private None = None
 bid_made private (Some (Made other bid)) = if same_private other private then Some bid.amount else None
-bid_made private (Some (Ended other)) = None
+bid_made private other = None
 
 -- the greater of a bid and an earlier one, if there are any
 abbrev pub greater_bid : Option ℕ → Option ℕ → Option ℕ
@@ -87,8 +86,7 @@ bids_elsewhere_of events seat private = sum_by (tied_elsewhere events seat priva
 
 -- what a seat can spend on a private: its cash minus its standing bids on the others
 abbrev pub free_for : ℕ → List Event → Seat → Private → ℤ
-free_for seats events seat private =
-    cash_of seats events (party_at seat) -ℤ pos (bids_elsewhere_of events seat private)
+free_for seats events seat private = cash_of seats events (party_at seat) -ℤ pos (bids_elsewhere_of events seat private)
 
 -- a seat's cash minus its standing bids
 abbrev pub free_cash_of : ℕ → List Event → Seat → ℤ

@@ -108,8 +108,7 @@ start_of seats (party.Holder (holder.Company company)) = 0
 
 -- a party's cash: its start money, plus all that came in, minus all that went out
 abbrev pub cash_of : ℕ → List Event → Party → ℤ
-cash_of seats events party =
-    balance (start_of seats party) (λ event. paid_to party (payment_of event))
+cash_of seats events party = balance (start_of seats party) (λ event. paid_to party (payment_of event))
     (λ event. paid_by party (payment_of event)) events
 
 -- what is said of this private's owner

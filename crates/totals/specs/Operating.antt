@@ -35,8 +35,7 @@ has_operated events company = is_some (now_said (in_round (λ event. turn_said c
 -- the count of a seat's rulings after one more event: a round begins it again, and a ruling of the
 -- seat's line adds one
 abbrev pub rulings_then : Seat → ℕ → Event → ℕ
-rulings_then seat count event =
-    if is_some (round_begun_by event) then 0 else
+rulings_then seat count event = if is_some (round_begun_by event) then 0 else
     option_map_or (λ by. if by.0 == seat.0 then count + 1 else count) (ruled_by event) count
 
 -- how many lines of a seat's sheet were ruled since the last round began

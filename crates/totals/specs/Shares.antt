@@ -46,8 +46,7 @@ start_shares other = 0
 
 -- the shares of a company at a place
 abbrev pub shares_of : List Event → Company → Shareholder → ℤ
-shares_of events company place =
-    balance (start_shares place) (λ event. brought_to company place (transfer_of event))
+shares_of events company place = balance (start_shares place) (λ event. brought_to company place (transfer_of event))
     (λ event. taken_from company place (transfer_of event)) events
 
 -- what is said of a company's par value
@@ -74,8 +73,7 @@ is_started events company = is_some (square_of events company)
 
 -- the place in the list of the event that set the square of a company's token; 0 if none did
 abbrev pub arrival_of : List Event → Company → ℕ
-arrival_of events company =
-    unwrap_or (last_place_from (λ event. square_said company (square_set event)) 0 events) 0
+arrival_of events company = unwrap_or (last_place_from (λ event. square_said company (square_set event)) 0 events) 0
 
 -- what is said of a company's president
 abbrev pub president_said : Company → Option Office → Option Seat
@@ -100,9 +98,7 @@ abbrev pub sale_said : Company → Seat → Option Transfer → Option ℕ
 sale_said company seat None = None
 sale_said company seat (Some transfer) =
     if same_company transfer.company company && (same_shareholder transfer.from (OfSeat seat)
-    && same_shareholder transfer.to BankPool)
-    then Some transfer.shares
-    else None
+    && same_shareholder transfer.to BankPool) then Some transfer.shares else None
 
 -- a seat has sold shares of a company since the last round began
 abbrev pub has_sold_in_round : List Event → Company → Seat → Bool

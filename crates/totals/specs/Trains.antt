@@ -1,6 +1,6 @@
 -- Trains: where they lie, how many of a kind the bank has sold, and the phase. The bank's own
 -- trains have never been sold; those of the bank pool were given back by companies; a train that
--- rusts leaves play. The game begins in phase 2, and the first train of a later kind from the bank
+-- rusts is removed from the game. The game begins in phase 2, and the first train of a later kind from the bank
 -- begins the next phase.
 use Rattle.std.specs.Prelude.{◌≡◌, ℕ, Bool, true, false, ◌&&◌, if◌then◌else◌, List, [], ◌∷◌, map, Option, Some, None, ℤ}
 use Rattle.std.specs.Prelude.{pos, negsuc, ◌+ℤ◌, ◌≤ℤ◌, ◌≤◌, ◌<◌, unwrap_or}
@@ -58,8 +58,7 @@ count_of comes goes events = balance 0 (λ event. one_if (comes event)) (λ even
 -- the trains of a kind at a place: what came there minus what went. The bank's own count is
 -- negative: minus those that it has sold
 abbrev pub trains_at : List Event → TrainPlace → Kind → ℤ
-trains_at events place kind =
-    count_of (λ event. train_comes place kind (train_moved event))
+trains_at events place kind = count_of (λ event. train_comes place kind (train_moved event))
     (λ event. train_goes place kind (train_moved event)) events
 
 -- the trains of a kind that a company has, or those of the bank pool if there is no owner
@@ -75,7 +74,7 @@ trains_of_kinds events owner (kind ∷ others) = trains_held events owner kind +
 abbrev pub train_count : List Event → Option Company → ℤ
 train_count events owner = trains_of_kinds events owner kinds
 
--- a number that is not negative: 0 if it is under 0
+-- a number that is not negative: 0 if it is less than 0
 abbrev pub at_least_zero : ℤ → ℕ
 at_least_zero (pos n) = n
 at_least_zero (negsuc n) = 0

@@ -63,19 +63,17 @@ turned rules turn = record { state = turn.events; acted = rules.has_acted turn.a
 
 -- the turns of a round at a table of this many seats
 abbrev pub turns_of : {TurnActions : Type 0} → RoundRules TurnActions → ℕ → Play (List Event) Numbered
-turns_of rules seats =
-    record {
-      seats = seats;
-      turn = λ seat lines events. turned rules (after_written_turn rules seats seat events lines);
-      pass = λ seat events. events ++ event.Passes seat ∷ [];
-      over = rules.over;
-    }
+turns_of rules seats = record {
+  seats = seats;
+  turn = λ seat lines events. turned rules (after_written_turn rules seats seat events lines);
+  pass = λ seat events. events ++ event.Passes seat ∷ [];
+  over = rules.over;
+}
 
 -- the round before its first turn: that is of the holder of priority
 abbrev pub opened : {TurnActions : Type 0} → RoundRules TurnActions → ℕ → List ℕ → Round → List Event
     → InPlay (List Event) Numbered
-opened rules seats file round events =
-    in_play
+opened rules seats file round events = in_play
     (after_standing rules file round (events ++ event.Round round ∷ []) (range_with_len 0 seats))
     (priority_of seats events).0 0 (written_turns_for seats file round)
 

@@ -1,4 +1,4 @@
--- A header line has at least eleven bytes, so that no file grows as it goes over to version 2.
+-- A header line has at least eleven bytes, so that no file grows as it migrates to version 2.
 use Rattle.std.proofs.Common.{◌≡◌, ℕ, ◌≤◌, ◌+◌, ◌-◌, inl, inr, Bool, true, false, cond, List, [], ◌∷◌, ◌++◌, Result, Ok}
 use Rattle.std.proofs.Common.{Err, Option, Some, None, codes, length, refl, sym, ap, subst, ◌∙◌, append_assoc, arith}
 use Rattle.std.proofs.Common.{eqb, map}
@@ -12,7 +12,7 @@ use Rattle.order_grammar.specs.Form.{order_forms}
 use Rattle.order_grammar.specs.Line.{reading_of}
 use Rattle.order_grammar.specs.Spells.{End, IsNumber, IsWord, Then}
 use Rattle.order_grammar.specs.Texts.{order_file}
-use Rattle.order_grammar.specs.Words.{before, before_comment, raised, with_word, words_from, words_of, written_words}
+use Rattle.order_grammar.specs.Words.{before, before_comment, raised, with_word, words_from, words_of}
 use Rattle.order_grammar.specs.declared.condition.Version.{Version}
 use Rattle.order_grammar.specs.declared.condition.Version.TheVariants.{One, Two}
 use Rattle.order_grammar.specs.declared.fault.Fault.{Fault}
@@ -102,7 +102,7 @@ line_total : (line : List ℕ) → total (words_of line) ≤ length line + 1
 line_total line =
     let fit = words_fit [] (before_comment line) in
     let shorter = before_fits 35 line in
-    rw (raised_total (written_words line)) (omega arith)
+    rw (raised_total (words_from [] (before_comment line))) (omega arith)
 
 -- digits of so great a number
 digit_most : (digit : ℕ) → is_digit digit ≡ true → digit - 48 ≤ 9

@@ -1,4 +1,4 @@
--- Two files that go over to version 2, or do not.
+-- Two files that migrate to version 2, or do not.
 use Rattle.std.proofs.Common.{◌≡◌, ℕ, List, [], ◌∷◌, ◌++◌, Err, codes, refl}
 use Rattle.std.specs.List.{flat_map}
 use Rattle.report.specs.Report.{refusal_line}

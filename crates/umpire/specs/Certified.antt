@@ -1,5 +1,5 @@
 -- What certifies a game: for each call that it makes of its runner, in order, a group for the round
--- and the company of the call. The group claims what the call returned, under 50,000 dollars. It is
+-- and the company of the call. The group claims what the call returned, less than 50,000 dollars. It is
 -- accepted at the position of the call for its trains, whatever fills up the last digit of its
 -- marks as they are printed.
 use Rattle.std.specs.Prelude.{◌≡◌, ◌<◌, ℕ, pos, List, [], ◌∷◌, Ok}

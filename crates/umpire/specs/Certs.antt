@@ -42,5 +42,4 @@ AreCertificatesCut given old new = Keeps old new ⊎ (IsCutInGroups given old ne
 
 -- what a fault leaves of certificates
 abbrev pub StopsCerts : Option (List ℕ) → Option (List ℕ) → Option (List ℕ) → Bool → Bool → Fault → Type 0
-StopsCerts given old new =
-    StopsBy (AreCertificatesCut given old new) (IsRefused given old new) NeverUncertified old new
+StopsCerts given old new = StopsBy (AreCertificatesCut given old new) (IsRefused given old new) NeverUncertified old new

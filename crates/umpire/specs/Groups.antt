@@ -68,10 +68,8 @@ group_if false group = None
 -- the groups of some lines; nothing for one that is malformed
 abbrev pub groups_in : List (List ℕ) → List (Option Group)
 groups_in [] = []
-groups_in (line ∷ lines) =
-    if begins_group line
-    then with_lines lines (group_begun (cert_reading_of line)) ∷ groups_in lines
-    else groups_in lines
+groups_in (line ∷ lines) = if begins_group line
+    then with_lines lines (group_begun (cert_reading_of line)) ∷ groups_in lines else groups_in lines
 
 -- the groups of a text
 unfoldable pub groups_of : List ℕ → List (Option Group)

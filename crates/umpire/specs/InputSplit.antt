@@ -26,8 +26,7 @@ begin_with_divider (line ∷ lines) = is_divider line
 -- what is in a text from its last such line on; a line may begin with the first byte, or not
 abbrev pub from_divider : Bool → List ℕ → Option (List ℕ)
 from_divider begins [] = None
-from_divider begins (byte ∷ bytes) =
-    option_or (from_divider (byte == 10) bytes)
+from_divider begins (byte ∷ bytes) = option_or (from_divider (byte == 10) bytes)
     (if begins && begin_with_divider (lines_of (byte ∷ bytes)) then Some (byte ∷ bytes) else None)
 
 -- a text without the one LF that ends it

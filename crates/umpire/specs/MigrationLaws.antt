@@ -20,8 +20,7 @@ GrowsNoLonger = (file : List ℕ) → length (migrated file) ≤ length file
 -- a file of no more bytes than a file may have is refused by a fault exactly if the migrated file
 -- is refused by that
 abbrev pub RefusedAlike : Type 0
-RefusedAlike =
-    (file : List ℕ) (fault : FileFault) → length file ≤ file_most →
+RefusedAlike = (file : List ℕ) (fault : FileFault) → length file ≤ file_most →
     (content_of (migrated file) ≡ Err fault) ↔ (content_of file ≡ Err fault)
 
 -- the migrated file is a file of version 2 that says the same: its players, its unread lines, which

@@ -5,6 +5,5 @@ use Rattle.umpire.specs.declared.fault.Fault.{Fault}
 
 -- one input has no two results, and no two texts
 abbrev pub OneAnswer : Type 0
-OneAnswer =
-    (input : List ℕ) (a b : Result (Unit {0}) Fault) (some other : List ℕ) → AnswersInput input a some →
+OneAnswer = (input : List ℕ) (a b : Result (Unit {0}) Fault) (some other : List ℕ) → AnswersInput input a some →
     AnswersInput input b other → (a ≡ b) × (some ≡ other)

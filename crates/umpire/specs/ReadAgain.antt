@@ -50,7 +50,6 @@ CertifyingCanBeWritten =
 -- `verify` writes the report of a file if groups that certify its game come after it and one LF,
 -- and their text is within its limit
 abbrev pub AcceptsWhatWasWritten : Type 0
-AcceptsWhatWasWritten =
-    (file : List ℕ) (groups : List Group) → IsAccepted file → CertifyGame file groups →
+AcceptsWhatWasWritten = (file : List ℕ) (groups : List Group) → IsAccepted file → CertifyGame file groups →
     length (certificates_text groups) ≤ certificates_most →
     (text : List ℕ) × AnswersInput (file ++ 10 ∷ certificates_text groups) (Ok tt) text

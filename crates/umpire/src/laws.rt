@@ -21,8 +21,8 @@ pub fn certificates_are_read_again()
 {}
 
 /// States that the lines of groups that certify the game of an accepted order file have a spelling.
-/// Each round is one that a line can name, each revenue is under 50,000 dollars, and each run has 2
-/// to 280 places.
+/// Each round is one that a line can name, each revenue is less than 50,000 dollars, and each run
+/// has 2 to 280 places.
 pub fn certifying_groups_can_be_written()
     ensures { CertifyingCanBeWritten }
 {

@@ -1,5 +1,5 @@
 -- The runs so far are before those that the marks give to the trains that are left; all of these
--- can be written out.
+-- can be written in full.
 use Rattle.std.proofs.Common.{◌≡◌, [], ◌++◌, drop, reverse}
 use Rattle.std.specs.List.{AllByRecursion}
 use Rattle.best_run.specs.MovePath.{CanBeClaimed, runs_of_marks, written}

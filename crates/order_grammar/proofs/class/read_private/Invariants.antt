@@ -1,7 +1,8 @@
 use Rattle.std.proofs.Common.{◌≡◌, drop}
 use Rattle.tables.specs.Roster.{privates, code_of_private}
-use Rattle.order_grammar.specs.Class.{code_reading, private_reading}
+use Rattle.order_grammar.specs.Class.{class_reading, code_reading}
 use Rattle.order_grammar.specs.Words.{raised}
+use Rattle.order_grammar.specs.declared.class.Class.TheVariants as class
 use Rattle.order_grammar.specs.declared.order.Value.TheVariants.{Private}
 use Rattle.order_grammar.proofs.class.read_private.Given as goal
 
@@ -9,4 +10,4 @@ use Rattle.order_grammar.proofs.class.read_private.Given as goal
 abbrev pub invariant-loop-private : goal.invariant-loop-private
 invariant-loop-private l =
     code_reading code_of_private Private (drop l.private-index privates) (raised l.word)
-    ≡ private_reading (raised l.word)
+    ≡ class_reading class.Private (raised l.word)

@@ -1,10 +1,9 @@
-use Rattle.std.proofs.Common.{◌≡◌, ℕ, ◌++◌, ◌∷◌, List, ◌∙◌, ap}
+use Rattle.std.proofs.Common.{◌≡◌, ℕ, ◌++◌, ◌∷◌, List, [], ◌∙◌, ap}
 use Rattle.events.specs.declared.event.Event.{Event}
 use Rattle.events.specs.declared.event.Event.TheVariants.{Given, Par, President, Sold}
 use Rattle.totals.specs.LookBack.{Game, with_event, with_events}
 use Rattle.privates.proofs.Sales.{bop_underway, four_more}
 use Rattle.privates.specs.ParOfBo.{par_set_by}
-use Rattle.privates.specs.Sale.{started_at}
 use Rattle.tables.specs.declared.roster.Company.TheVariants.{BaltimoreOhio}
 use Rattle.tables.specs.declared.roster.Private.TheVariants as private
 use Rattle.privates.proofs.sale.sell_baltimore.Goals as goal
@@ -23,7 +22,7 @@ returns-clause-after c =
     ∙ ap (λ (events : List Event). with_events game events)
     (four_more game.events _ _ _ _
     ∙ ap (λ (price : ℕ). game.events ++ Sold private.BaltimoreOhio c.args.buyer c.args.price
-    ∷ started_at c.args.buyer price) par)
+    ∷ Par BaltimoreOhio price ∷ Given BaltimoreOhio c.args.buyer 2 ∷ President BaltimoreOhio c.args.buyer ∷ []) par)
 
 pub returns-clause-underway : goal.returns-clause-underway
 returns-clause-underway c =
