@@ -1,6 +1,8 @@
 -- The words of a line, as they are written and as they are put together.
-use Rattle.std.specs.Prelude.{ℕ, ◌==◌, ◌||◌, ◌&&◌, ◌-◌, Bool, true, not, List, [], ◌∷◌, ◌++◌, length, map, nat_le, nat_lt}
-use Rattle.std.specs.Char.{is_ascii_digit, to_ascii_uppercase}
+use Rattle.std.specs.Prelude.{ℕ, ◌==◌, ◌||◌, ◌&&◌, ◌-◌, Bool, true, not, if◌then◌else◌, List, [], ◌∷◌, ◌++◌, length, map}
+use Rattle.std.specs.Prelude.{nat_le, nat_lt}
+use Rattle.hints.specs.Slip.{is_code}
+use Rattle.std.specs.Char.{is_ascii_alphabetic, is_ascii_digit, to_ascii_uppercase}
 use Rattle.std.specs.List.{list_any}
 
 -- a byte ends a word: it is a space, or begins a comment
@@ -47,3 +49,20 @@ are_within most (word ∷ words) = nat_le (length word) most && are_within (most
 -- signs, as many as twelve words of nine letters, and none is a number of more than five digits
 abbrev pub is_mendable : List (List ℕ) → Bool
 is_mendable words = are_within 108 words && is_without_long_number words
+
+-- a word has a digit or a sign
+abbrev pub has_other_than_letters : List ℕ → Bool
+has_other_than_letters word = list_any (λ byte. not (is_ascii_alphabetic byte)) word
+
+-- a word has two letters or more, nothing else, and is in neither of two lists of words
+abbrev pub is_unknown : List (List ℕ) → List (List ℕ) → List ℕ → Bool
+is_unknown firsts codes word =
+    nat_lt 1 (length word) && (not (has_other_than_letters word) && not (is_code word firsts || is_code word codes))
+
+-- at most so many of some words are in neither of two lists of words
+abbrev pub has_at_most_unknown : ℕ → List (List ℕ) → List (List ℕ) → List (List ℕ) → Bool
+has_at_most_unknown most firsts codes [] = true
+has_at_most_unknown most firsts codes (word ∷ words) =
+    if is_unknown firsts codes word
+    then nat_lt 0 most && has_at_most_unknown (most - 1) firsts codes words
+    else has_at_most_unknown most firsts codes words

@@ -9,6 +9,7 @@ use crate::vocabulary::{CODES, FIRSTS};
 use crate::words::{LETTERS_MOST, has_digit};
 use order_grammar::Version;
 use std::alloc::{AllocError, Global};
+use std::mem::replace;
 use std::ops::Range;
 
 /// The edited lines that are orders, no two of which are equal.
@@ -17,6 +18,8 @@ pub(crate) struct Edited {
     pub(crate) alloc: Global,
     /// The version of the file.
     pub(crate) version: Version,
+    /// A line that is not used, for the next edit.
+    spare: Vec<u8>,
     pub(crate) lines: Vec<Vec<u8>>,
 }
 
@@ -29,6 +32,7 @@ impl Edited {
         Edited {
             alloc,
             version,
+            spare: Vec::new(alloc),
             lines: Vec::new(alloc),
         }
     }
@@ -42,18 +46,27 @@ impl Edited {
         Ok(texts)
     }
 
+    /// Returns a line without words, in memory that was used before.
+    fn blank(&mut self) -> Vec<u8>
+        ensures version { self.new.version ≡ self.old.version }
+        ensures blank { result.items ≡ [] }
+    {
+        let mut line = replace(&mut self.spare, Vec::new(self.alloc));
+        line.clear();
+        line
+    }
+
     /// Adds a line if it is an order, unless it is there already.
     fn add(&mut self, line: Vec<u8>) -> Result<(), AllocError>
         ensures { self.new.version ≡ self.old.version }
     {
-        let is_there = self
-            .lines
-            .iter()
-            .any(|other| other.as_slice() == line.as_slice());
-        if is_there || !is_order(self.version, line.as_slice()) {
-            return Ok(());
+        let text = line.as_slice();
+        if is_order(self.version, text)
+            && !self.lines.iter().any(|other| other.as_slice() == text)
+        {
+            self.lines.push(Vec::from_slice(self.alloc, text)?)?;
         }
-        self.lines.push(line)?;
+        self.spare = line;
         Ok(())
     }
 
@@ -61,7 +74,7 @@ impl Edited {
     pub(crate) fn push(&mut self, words: &[&[u8]]) -> Result<(), AllocError>
         ensures { self.new.version ≡ self.old.version }
     {
-        let mut line = Vec::new(self.alloc);
+        let mut line = self.blank();
         for word in words {
             push_word(&mut line, word)?;
         }
@@ -72,7 +85,7 @@ impl Edited {
     fn push_with(&mut self, words: &[&[u8]], place: usize, other: &[u8]) -> Result<(), AllocError>
         ensures { self.new.version ≡ self.old.version }
     {
-        let mut line = Vec::new(self.alloc);
+        let mut line = self.blank();
         for (at, word) in words.iter().enumerate() {
             push_word(&mut line, if at == place { other } else { word })?;
         }
@@ -147,7 +160,7 @@ impl Edited {
     fn push_bare(&mut self, words: &[&[u8]]) -> Result<(), AllocError>
         ensures { self.new.version ≡ self.old.version }
     {
-        let mut line = Vec::new(self.alloc);
+        let mut line = self.blank();
         for word in words {
             push_word(&mut line, bare(word))?;
         }
@@ -159,7 +172,7 @@ impl Edited {
     fn push_at_least(&mut self, words: &[&[u8]]) -> Result<(), AllocError>
         ensures { self.new.version ≡ self.old.version }
     {
-        let mut line = Vec::new(self.alloc);
+        let mut line = self.blank();
         let mut is_over = false;
         for word in words {
             let signed = by_sign(word);
@@ -186,7 +199,7 @@ impl Edited {
         let mut joined = Vec::new(self.alloc);
         joined.extend_from_slice(word)?;
         joined.extend_from_slice(next)?;
-        let mut line = Vec::new(self.alloc);
+        let mut line = self.blank();
         for (at, word) in words.iter().enumerate() {
             if at == place {
                 push_word(&mut line, joined.as_slice())?;
@@ -208,7 +221,7 @@ impl Edited {
     ) -> Result<(), AllocError>
         ensures { self.new.version ≡ self.old.version }
     {
-        let mut line = Vec::new(self.alloc);
+        let mut line = self.blank();
         for (other, whole) in words.iter().enumerate() {
             if other == place {
                 push_word(&mut line, word.get(..at).unwrap_or(&[]))?;
@@ -243,7 +256,7 @@ impl Edited {
     ) -> Result<(), AllocError>
         ensures { self.new.version ≡ self.old.version }
     {
-        let mut line = Vec::new(self.alloc);
+        let mut line = self.blank();
         for (at, word) in words.iter().enumerate() {
             if at == to && to < from {
                 push_word(&mut line, moved)?;

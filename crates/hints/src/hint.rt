@@ -12,7 +12,7 @@ use crate::mail::{ends_quoted, has_quoted_sign, stray_in, without_strays};
 use crate::remark::{push_before_remark, push_without_sign};
 use crate::slips::{is_code, nearest};
 use crate::vocabulary::{CODES, FIRSTS};
-use crate::words::{has_digit, is_mendable, words_of};
+use crate::words::{UNKNOWN_MOST, has_at_most_unknown, has_digit, is_mendable, words_of};
 use order_grammar::{Fault, Version, print_number};
 use std::alloc::{AllocError, Global};
 
@@ -140,7 +140,10 @@ fn meant_by(alloc: Global, faulty: Faulty) -> Result<Meant, AllocError>
         }
     }
     match words.get(..count) {
-        Some(words) if is_mendable(words) => meant_by_few(alloc, faulty, words),
+        Some(words)
+            if is_mendable(words) && has_at_most_unknown(UNKNOWN_MOST, &FIRSTS, &CODES, words) => {
+            meant_by_few(alloc, faulty, words)
+        }
         _ => Ok(Meant::Unknown),
     }
 }

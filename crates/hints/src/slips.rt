@@ -66,7 +66,7 @@ pub(crate) fn is_near(word: &[u8], code: &[u8]) -> bool
 }
 
 /// Returns the only code that is one slip away from a word; `None` if the word is itself a code, if
-/// no code or several are one slip away, or if the word has over 9 bytes.
+/// no code or several are one slip away, or if the word has more than 9 bytes.
 pub(crate) fn nearest<'a>(word: &[u8], codes: &[&'a [u8]]) -> Option<&'a [u8]>
     ensures { option_map text result ≡ nearest_code word.now (texts codes.now) }
 {

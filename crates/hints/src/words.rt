@@ -1,9 +1,11 @@
 //! The words of a line, as they are written.
 ghost use Rattle.std.specs.Prelude.{◌≡◌};
-ghost use Rattle.hints.specs.Words.{are_within, ends_word, has_digit, has_other_than_digits};
-ghost use Rattle.hints.specs.Words.{is_long_number, is_mendable};
-ghost use Rattle.hints.specs.Words.{is_without_long_number};
 ghost use Rattle.hints.specs.Slip.{texts};
+ghost use Rattle.hints.specs.Words.{are_within, ends_word, has_at_most_unknown, has_digit};
+ghost use Rattle.hints.specs.Words.{has_other_than_digits, has_other_than_letters, is_long_number};
+ghost use Rattle.hints.specs.Words.{is_mendable, is_unknown, is_without_long_number};
+
+use crate::slips::is_code;
 
 /// How many words of a line are looked at.
 pub(crate) const WORDS_MOST: usize = 12;
@@ -13,6 +15,9 @@ pub(crate) const LETTERS_MOST: usize = 9;
 
 /// The most digits of a number of an order.
 pub(crate) const DIGITS_MOST: usize = 5;
+
+/// The most unknown words of a line that one edit can mend: two that were one word.
+pub(crate) const UNKNOWN_MOST: usize = 2;
 
 /// The most letters of the words that are mended, taken together.
 const MENDED_MOST: usize = WORDS_MOST * LETTERS_MOST;
@@ -43,6 +48,43 @@ fn is_without_long_number(words: &[&[u8]]) -> bool
         [] => true,
         [word, rest @ ..] => !is_long_number(word) && is_without_long_number(rest),
     }
+}
+
+/// Returns whether at most so many of some words are unknown: neither first words of lines nor
+/// other words of orders. An edit changes at most two words, so a line with three of them is near
+/// to no order.
+pub(crate) fn has_at_most_unknown(
+    most: usize,
+    firsts: &[&[u8]],
+    codes: &[&[u8]],
+    words: &[&[u8]],
+) -> bool
+    ensures { result ≡ has_at_most_unknown most (texts firsts.now) (texts codes.now) (texts words.now) }
+{
+    match words {
+        [] => true,
+        [word, rest @ ..] if is_unknown(firsts, codes, word) => {
+            most > 0 && has_at_most_unknown(most - 1, firsts, codes, rest)
+        }
+        [_, rest @ ..] => has_at_most_unknown(most, firsts, codes, rest),
+    }
+}
+
+/// Returns whether a word has two letters or more, nothing else, and is neither a first word of
+/// lines nor another word of orders.
+fn is_unknown(firsts: &[&[u8]], codes: &[&[u8]], word: &[u8]) -> bool
+    ensures { result ≡ is_unknown (texts firsts.now) (texts codes.now) word.now }
+{
+    word.len() > 1
+        && !has_other_than_letters(word)
+        && !(is_code(word, firsts) || is_code(word, codes))
+}
+
+/// Returns whether a word has a digit or a sign.
+fn has_other_than_letters(word: &[u8]) -> bool
+    ensures { result ≡ has_other_than_letters word.now }
+{
+    word.iter().any(|byte| !byte.is_ascii_alphabetic())
 }
 
 /// Returns whether a word is a number of more than five digits.
