@@ -11,8 +11,8 @@ use map_tables::{Hex, Lay, printed_value, terrain_cost};
 use markup::PagePiece::{Count, Hex as Hexed, Number, Round as Named, Words};
 use markup::{Attr, Point, Tag, Writer};
 use picture::{
-    Look, Shade, Stops, centre, cost_point, draw_stops, draw_track, kind_point, private_point,
-    value_point,
+    BASELINE, Look, Shade, Stops, centre, cost_point, draw_stops, draw_track, kind_point, names_on,
+    private_point, signs_of, value_point,
 };
 use tables::{Kind, Money, Private, Round};
 
@@ -175,13 +175,22 @@ pub fn put_stops(out: &mut Writer, scene: &Scene, look: &Look) {
             put_privates(out, scene, look.hex);
         }
     }
-    out.label("c", Point { x: 0, y: -45 }, &[Hexed(look.hex)]);
+    out.label("c", Point { x: -40, y: 30 }, &[Hexed(look.hex)]);
     if let Some(lay) = look.lay {
         put_tile(out, lay);
     }
+    put_names(out, look);
 }
 
-/// Adds the two values of a red area, the present one white on black, and its name.
+/// Adds the names of a hex, where it has room for them.
+fn put_names(out: &mut Writer, look: &Look) {
+    let names = names_on(look, signs_of(look));
+    for name in [names.first, names.second].iter().flatten() {
+        out.label("nm", name.frame.middle.down(BASELINE), &[Words(name.words)]);
+    }
+}
+
+/// Adds the two values of a red area, the present one white on black.
 fn put_area(out: &mut Writer, scene: &Scene, hex: Hex) {
     let is_late = scene.history.phase().index() >= Kind::Five.index();
     let (left, right) = if is_late {
@@ -202,18 +211,6 @@ fn put_area(out: &mut Writer, scene: &Scene, hex: Hex) {
         Point { x: 17, y: 5 },
         &[Number(Money::from(value.from_phase_five))],
     );
-    if let Some((y, name)) = area_name(hex) {
-        out.label("a", Point { x: 0, y }, &[Words(name)]);
-    }
-}
-
-/// Returns how far down the name of a red area is, with a short name, for those in two hexes.
-fn area_name(hex: Hex) -> Option<(i32, &'static str)> {
-    match hex {
-        Hex::I1 | Hex::J2 => Some((28, "Gulf")),
-        Hex::A9 | Hex::A11 => Some((-20, "Can. West")),
-        _ => None,
-    }
 }
 
 /// Adds what the stops are worth, and the kind of the hex.
@@ -278,7 +275,7 @@ fn put_private(
 fn put_tile(out: &mut Writer, lay: Lay) {
     out.label(
         "i",
-        Point { x: 0, y: 52 },
+        Point { x: 0, y: 51 },
         &[
             Number(Money::from(lay.tile.number())),
             Words("/"),

@@ -4,8 +4,8 @@ use markup::PagePiece::{At, Words};
 use markup::{Attr, PagePiece, Tag, Writer, livery_of};
 use tables::Company;
 
-/// The rim of a hex, open at its name and its tile's number.
-const RIM: &str = "M17-45L48-27V27L17 45M-17-45L-48-27V27L-17 45";
+/// The rim of a hex, open from its name in the lower left corner to its tile's number below.
+const RIM: &str = "M17 45L48 27V-27L0-55-48-27V17";
 
 /// Signs that are one path: their names and their data. Those whose names begin with `f` are the
 /// rims that distinguish the grounds of hexes without colour; `nh` is the rim of a new tile, and

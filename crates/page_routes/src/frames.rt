@@ -4,7 +4,9 @@ use board_state::same_hex;
 use history::History;
 use map_tables::{Hex, StopNumber, private_hexes, terrain_cost};
 use markup::Point;
-use picture::{Look, Stops, centre, cost_point, kind_point, private_point, value_point};
+use picture::{
+    Look, Stops, centre, cost_point, kind_point, names_on, private_point, signs_of, value_point,
+};
 use std::alloc::{AllocError, Global};
 use tables::Private;
 
@@ -65,20 +67,25 @@ pub(crate) fn obstacles(alloc: Global, history: &History) -> Result<Vec<Frame>, 
 /// Adds the parts of a hex that must stay readable.
 fn add_frames(frames: &mut Vec<Frame>, look: &Look) -> Result<(), AllocError> {
     let middle = centre(look.hex);
-    frames.push(Frame::around(middle.down(-49), 14, 7))?;
+    frames.push(Frame::around(middle.plus(Point { x: -40, y: 26 }), 11, 5))?;
     if look.lay.is_some() {
-        frames.push(Frame::around(middle.down(48), 18, 7))?;
+        frames.push(Frame::around(middle.down(47), 15, 5))?;
     } else if terrain_cost(look.hex) > 0 {
         frames.push(Frame::around(middle.plus(cost_point(look.hex)), 15, 14))?;
     }
     if let Stops::Area = look.stops {
-        frames.push(Frame::around(middle, 36, 32))?;
+        frames.push(Frame::around(middle, 36, 12))?;
     }
     if let Some(place) = value_point(look) {
         frames.push(Frame::around(middle.plus(place), 12, 12))?;
     }
     if let Some(place) = kind_point(look) {
         frames.push(Frame::around(middle.plus(place), 14, 9))?;
+    }
+    let names = names_on(look, signs_of(look));
+    for name in [names.first, names.second].iter().flatten() {
+        let its = name.frame;
+        frames.push(Frame::around(middle.plus(its.middle), its.across, its.down))?;
     }
     add_stops(frames, look, middle)?;
     for &private in &Private::ALL {

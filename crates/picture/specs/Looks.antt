@@ -1,14 +1,20 @@
 -- What shows in a hex beside its track: the ground, what its stops are, how many, how many slots
 -- each has, and what each is worth. That is what the tile on the hex has, or its print.
-use Rattle.std.specs.Prelude.{ℕ, Option, None, Some, ltb, if◌then◌else◌}
+use Rattle.std.specs.Prelude.{ℕ, Bool, true, false, Option, None, Some, ltb, nat_lt, ◌==◌, if◌then◌else◌}
 use Rattle.map_tables.specs.declared.hex.Hex.{Hex}
 use Rattle.map_tables.specs.declared.lay.Lay.{Lay}
+use Rattle.map_tables.specs.declared.place.StopNumber.{StopNumber}
 use Rattle.map_tables.specs.declared.print.HexKind.{HexKind}
 use Rattle.map_tables.specs.declared.print.HexKind.TheVariants.{Open, Grey, Red}
+use Rattle.map_tables.specs.declared.side.Side.{Side}
 use Rattle.map_tables.specs.declared.tiles.Colour.{Colour}
 use Rattle.map_tables.specs.declared.tiles.Colour.TheVariants as colour
 use Rattle.map_tables.specs.declared.tiles.TileKind.{TileKind}
 use Rattle.map_tables.specs.declared.tiles.TileKind.TheVariants.{Plain, Town, TwoTowns, City, CityB, CitiesNY, CitiesOO}
+use Rattle.map_tables.specs.declared.track.Link.{Link}
+use Rattle.map_tables.specs.declared.track.TrackEnd.{TrackEnd}
+use Rattle.map_tables.specs.declared.track.TrackEnd.TheVariants as end
+use Rattle.map_tables.specs.Place.{stop_index_of}
 use Rattle.map_tables.specs.Print.{print_of}
 use Rattle.map_tables.specs.Tile.{entry_of, stops_of_kind}
 use Rattle.picture.specs.declared.look.Shade.{Shade}
@@ -66,3 +72,19 @@ slots_on None hex = (print_of hex).slots
 abbrev pub value_on : Option Lay → Hex → ℕ
 value_on (Some lay) _ = (entry_of lay.tile).value
 value_on None hex = (print_of hex).value.before_phase_five
+
+-- whether a stop lies where the hex has room, whatever its sides: an area, or a single city
+abbrev pub is_on_its_own : Stops → ℕ → Bool
+is_on_its_own stops.Area _ = true
+is_on_its_own stops.Cities count = nat_lt count 2
+is_on_its_own stops.Towns _ = false
+
+-- the side from which track leads to a stop, by its two ends; none if it does not
+abbrev side_between : TrackEnd → TrackEnd → StopNumber → Option Side
+side_between (end.Side side) (end.Stop its) stop = if stop_index_of its == stop_index_of stop then Some side else None
+side_between (end.Side _) (end.Side _) _ = None
+side_between (end.Stop _) _ _ = None
+
+-- the side from which a link leads to a stop; none if it does not
+abbrev pub side_to : Link → StopNumber → Option Side
+side_to link stop = side_between link.a link.b stop

@@ -6,15 +6,20 @@ use map_tables::{Hex, Side, TileNo};
 use markup::Point;
 use tables::Private;
 
-/// Returns the place of a label in the corner of this number; `None` if there is no such corner.
+/// Where a label may be, left and right of the centre.
+const BESIDE: Point = Point { x: 36, y: 0 };
+
+/// Returns the place of a label: in the corner of this number, or with 6 and 7 to the left and the
+/// right of the centre; `None` if there is none. The corner 0 has the name of the hex.
 fn corner(digit: u8) -> Option<Point> {
     let side = match digit {
-        b'0' => Side::SouthWest,
         b'1' => Side::West,
         b'2' => Side::NorthWest,
         b'3' => Side::NorthEast,
         b'4' => Side::East,
         b'5' => Side::SouthEast,
+        b'6' => return Some(Point::CENTRE.minus(BESIDE)),
+        b'7' => return Some(BESIDE),
         _ => return None,
     };
     Some(on_ring(Ring::Corner, side))
@@ -37,23 +42,30 @@ pub fn kind_point(look: &Look) -> Option<Point> {
     }
 }
 
-/// Returns the corners of the value of a tile's stops, rotation by rotation.
+/// Returns the corners of the value of a tile's stops, rotation by rotation: with those of the kind
+/// they are as far as possible from slots, numbers and track.
 fn value_corners(tile: TileNo) -> &'static [u8; 6] {
     match tile {
-        TileNo::T3 => b"334113",
-        TileNo::T58 => b"340113",
-        TileNo::T2 | TileNo::T56 | TileNo::T15 | TileNo::T54 => b"440133",
-        TileNo::T69 => b"113333",
-        TileNo::T1 | TileNo::T4 | TileNo::T14 | TileNo::T55 | TileNo::T57 => b"133133",
-        TileNo::T53 | TileNo::T63 => b"333333",
-        TileNo::T59 => b"340113",
-        TileNo::T61 => b"333113",
-        TileNo::T62 => b"450123",
-        TileNo::T64 => b"103133",
-        TileNo::T65 => b"113343",
-        TileNo::T66 => b"400133",
-        TileNo::T67 => b"133400",
-        TileNo::T68 => b"401133",
+        TileNo::T1
+        | TileNo::T4
+        | TileNo::T14
+        | TileNo::T15
+        | TileNo::T53
+        | TileNo::T55
+        | TileNo::T57
+        | TileNo::T58
+        | TileNo::T61
+        | TileNo::T63 => b"333333",
+        TileNo::T3 => b"333133",
+        TileNo::T2 => b"331333",
+        TileNo::T54 | TileNo::T56 => b"343133",
+        TileNo::T64 | TileNo::T69 => b"133333",
+        TileNo::T62 => b"456123",
+        TileNo::T59 => b"345113",
+        TileNo::T65 => b"313333",
+        TileNo::T66 => b"411333",
+        TileNo::T67 => b"133457",
+        TileNo::T68 => b"561133",
         _ => b"------",
     }
 }
@@ -61,15 +73,14 @@ fn value_corners(tile: TileNo) -> &'static [u8; 6] {
 /// Returns the corners of the kind of a tile, rotation by rotation.
 fn kind_corners(tile: TileNo) -> &'static [u8; 6] {
     match tile {
-        TileNo::T53 => b"111111",
-        TileNo::T54 => b"301014",
-        TileNo::T59 => b"455022",
-        TileNo::T61 => b"144401",
-        TileNo::T64 => b"431404",
-        TileNo::T65 => b"440110",
-        TileNo::T66 => b"051324",
-        TileNo::T67 => b"-24-51",
-        TileNo::T68 => b"550224",
+        TileNo::T53 | TileNo::T61 => b"111111",
+        TileNo::T54 => b"121414",
+        TileNo::T59 => b"413631",
+        TileNo::T64 => b"411141",
+        TileNo::T65 => b"141114",
+        TileNo::T66 => b"752114",
+        TileNo::T67 => b"624731",
+        TileNo::T68 => b"456314",
         _ => b"------",
     }
 }
@@ -88,8 +99,7 @@ fn printed_value_corner(hex: Hex) -> u8 {
 fn printed_kind_corner(hex: Hex) -> u8 {
     match hex {
         Hex::D10 | Hex::E5 | Hex::E11 | Hex::H18 => b'5',
-        Hex::E23 => b'0',
-        Hex::G19 => b'4',
+        Hex::E23 | Hex::G19 => b'4',
         Hex::I15 => b'3',
         _ => b'-',
     }

@@ -5,11 +5,13 @@
 //! `lane_shift` is where the run in a lane crosses a border.
 //!
 //! The definitions, in `specs/`: `Points` (the points of a hex), `Curves` (the ends of a link, and
-//! how it bends), `Lanes` (where runs cross a border), `ClosedSides` (the closed borders of a hex).
+//! how it bends), `Lanes` (where runs cross a border), `ClosedSides` (the closed borders of a hex),
+//! `Frames` (which places are free for a text), `Names` (the room for names and pills).
 //!
 //! Reading order: `point`, `bend`, `look` (what shows in a hex, and where), `curve`, `strands`,
-//! `labels` (where there is room for a label), `lanes`, `closed_borders`, `city_names`, `drawing`
-//! (a hex's track and stops).
+//! `labels` (where there is room for a label), `lanes`, `closed_borders`, `city_names`, `frames`
+//! (places for texts), `taken` (the frames of a hex), `names` (where its names are), `pills` (where
+//! its pills are), `drawing` (its track and stops).
 #![tactic(auto)]
 
 mod bend;
@@ -17,18 +19,26 @@ mod city_names;
 mod closed_borders;
 mod curve;
 mod drawing;
+mod frames;
 mod labels;
 mod lanes;
 mod look;
+mod names;
+mod pills;
 mod point;
 mod strands;
+mod taken;
 
 pub use bend::{Bend, bend_between};
 pub use city_names::city_name;
 pub use closed_borders::is_closed_side;
 pub use curve::{Curve, Curves, Way, towards, track_of, way_across};
 pub use drawing::{Marker, draw_stops, draw_track, put_way};
+pub use frames::{Frame, Frames};
 pub use labels::{cost_point, kind_point, private_point, value_point};
 pub use lanes::{LANES_MOST, lane_shift};
 pub use look::{Look, Shade, Stops};
+pub use names::{BASELINE, Names, PlacedName, names_on};
+pub use pills::{pill_half, place_pill, words_of};
 pub use point::{Ring, border_point, centre, on_ring};
+pub use taken::signs_of;

@@ -1,9 +1,10 @@
 //! What shows in a hex: its links, its stops, and where each stop is.
-ghost use Rattle.std.specs.Prelude.{◌≡◌, ◌<◌};
+ghost use Rattle.std.specs.Prelude.{◌≡◌, ◌<◌, true, None};
 ghost use Rattle.map_tables.specs.Lay.{laid_links_of};
 ghost use Rattle.map_tables.specs.OnMap.{links_on, tile_on};
 ghost use Rattle.map_tables.specs.Print.{printed_links_of};
 ghost use Rattle.picture.specs.Looks.{shade_of, stops_of, shade_on, stops_on, count_on, slots_on, value_on};
+ghost use Rattle.picture.specs.Looks.{is_on_its_own, side_to};
 
 use crate::bend::{Bend, bend_between};
 use crate::point::{Ring, on_ring};
@@ -145,7 +146,9 @@ impl Look {
 
     /// Returns how the way through a stop bends, if it has two sides and may lie off the centre;
     /// `None` otherwise.
-    pub(crate) fn bend_at(&self, stop: StopNumber) -> Option<Bend> {
+    pub(crate) fn bend_at(&self, stop: StopNumber) -> Option<Bend>
+        ensures { is_on_its_own self.now.stops self.now.count ≡ true → result ≡ None }
+    {
         if self.is_on_its_own() {
             return None;
         }
@@ -157,7 +160,9 @@ impl Look {
 
     /// Returns whether its stop is placed where the hex has room, whatever its sides: an area, or a
     /// single city.
-    fn is_on_its_own(&self) -> bool {
+    fn is_on_its_own(&self) -> bool
+        ensures { result ≡ is_on_its_own self.now.stops self.now.count }
+    {
         match self.stops {
             Stops::Area => true,
             Stops::Cities => self.count < 2,
@@ -209,8 +214,11 @@ impl Look {
         }
     }
 
-    /// Returns the side to which a stop leans, so that it is apart from the other; `None` for most.
-    fn leaning(&self, stop: StopNumber) -> Option<Side> {
+    /// Returns the side to which a stop leans, so that it is apart from the other; `None` for most
+    /// tiles and for prints.
+    fn leaning(&self, stop: StopNumber) -> Option<Side>
+        ensures { self.now.lay ≡ None → result ≡ None }
+    {
         let lay = self.lay?;
         let stop = if lay.swap { stop.other() } else { stop };
         let side = match (lay.tile, stop) {
@@ -225,7 +233,9 @@ impl Look {
     }
 
     /// Returns the places of a city's two slots. A single slot is at the place of the city.
-    pub fn slot_places(&self, stop: StopNumber) -> (Point, Point) {
+    pub fn slot_places(&self, stop: StopNumber) -> (Point, Point)
+        ensures { self.now.slots < 2 → result.0 ≡ result.1 }
+    {
         let place = self.place(stop);
         let offset = match self.bend_at(stop) {
             Some(Bend::Sharp(corner)) => on_ring(Ring::SharpSlot, corner),
@@ -299,13 +309,15 @@ fn tile_hours(tile: TileNo) -> (u8, u8) {
 /// Returns the same of a printed hex.
 fn printed_hours(hex: Hex) -> (u8, u8) {
     match hex {
-        Hex::G19 => (4, 10),
-        _ => (8, 10),
+        Hex::G19 => (4, 9),
+        _ => (1, 5),
     }
 }
 
 /// Returns the side from which a link leads to a stop; `None` if it does not.
-fn side_to(link: &Link, stop: StopNumber) -> Option<Side> {
+fn side_to(link: &Link, stop: StopNumber) -> Option<Side>
+    ensures { result ≡ side_to link.now stop }
+{
     match (link.a, link.b) {
         (TrackEnd::Side(side), TrackEnd::Stop(its)) if its.index() == stop.index() => Some(side),
         _ => None,

@@ -1,6 +1,6 @@
 //! Points of a hex. The centre is 0,0, the side is 60 long, and y grows downwards.
 ghost use Rattle.std.specs.Prelude.{◌≡◌};
-ghost use Rattle.picture.specs.Points.{border_point};
+ghost use Rattle.picture.specs.Points.{border_point, centre};
 
 use map_tables::{Hex, PerSide, Side};
 use markup::Point;
@@ -36,7 +36,7 @@ const SHARP_SLOT: PerSide<Point> = round!(8 13, 8 -13, 15 0, 8 13, 8 -13, 15 0);
 const SHARP_NUMBER: PerSide<Point> = round!(-11 6, -11 -6, 0 -13, 11 -6, 11 6, 0 13);
 
 /// Labels in the corners after the sides.
-const CORNER: PerSide<Point> = round!(-35 20, -35 -20, 0 -32, 35 -20, 35 20, 0 32);
+const CORNER: PerSide<Point> = round!(-35 20, -35 -20, 0 -40, 35 -20, 35 20, 0 32);
 
 /// The number of each side, outside, in pictures of tiles.
 const DIGIT: PerSide<Point> = round!(-32 59, -60 4, -32 -51, 32 -51, 60 4, 32 59);
@@ -87,8 +87,10 @@ pub fn on_ring(ring: Ring, side: Side) -> Point {
     points[side.number()]
 }
 
-/// Returns the centre of a hex on the map.
-pub fn centre(hex: Hex) -> Point {
+/// Returns the centre of a hex on the map. Columns are 52 apart and rows 90.
+pub fn centre(hex: Hex) -> Point
+    ensures { result ≡ centre hex }
+{
     Point {
         x: 52 * i32::from(hex.column()),
         y: 90 * (i32::from(hex.row()) - 65) + 62,

@@ -1,0 +1,2 @@
+-- What the proofs of pictures share.
+pub mod FrameLemmas
