@@ -51,7 +51,7 @@ name_of_tag Preformatted = codes "pre"
 name_of_tag Input = codes "input"
 name_of_tag InputLabel = codes "label"
 
--- whether an element of this name has a start tag alone: two of those at the head of a page
+-- whether an element of this name has a start tag alone: two of those at the start of a page
 abbrev pub is_void : List ℕ → Bool
 is_void name = bytes_eq name (codes "meta") || bytes_eq name (codes "!DOCTYPE")
 

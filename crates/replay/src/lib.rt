@@ -4,20 +4,24 @@
 //! one page to the next stands once. The contract is the law of the list: for each page, the parts
 //! that live in it are those of its layer, in order, and they are what its rule of style leaves.
 //! `put_replay` writes the parts, in groups by the pages that have them, and `put_rules` the rules
-//! of style by which a button for each page leaves those of that page alone.
+//! of style by which a button for each page leaves those of that page alone. The address of a page
+//! does the same as its button. Another button compares that page with an earlier one: each figure
+//! stands behind the older one, if it has changed.
 //!
 //! The definitions, in `specs/`: `Shown` (the parts that live in a page), `Classes` (those that its
 //! rule leaves).
 //!
 //! Reading order: `lasting` (a part with its pages), `merge` (`replay_of`), `classes`, `shown` (how
-//! it is written).
+//! it is written), `rules` (of style, for buttons).
 #![tactic(auto)]
 
 mod classes;
 mod lasting;
 mod merge;
+mod rules;
 mod shown;
 
 pub use lasting::{Lasting, Layers};
 pub use merge::replay_of;
-pub use shown::{put_button, put_button_words, put_cells, put_replay, put_rules};
+pub use rules::{put_if_before, put_if_shown, put_rules};
+pub use shown::{begin_lasting, put_replay};

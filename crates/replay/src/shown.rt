@@ -1,9 +1,9 @@
-//! How a list of parts is written, and the buttons and rules of style that show a page of it.
+//! How a list of parts is written.
 
 use crate::classes::{Classes, classes_of};
 use crate::lasting::Lasting;
 use markup::PagePiece::{Count, Words};
-use markup::{Attr, PagePiece, Tag, Writer};
+use markup::{Attr, Tag, Writer};
 use std::collections::VecDeque;
 
 /// Adds a list of parts. Those that some of the pages up to the last one have not are in elements
@@ -23,15 +23,10 @@ pub fn put_replay(out: &mut Writer, parts: VecDeque<Lasting>, last: usize, tag: 
     end_group(out, open);
 }
 
-/// Adds a list of parts, each in an element of this tag, with the classes of its pages.
-pub fn put_cells(out: &mut Writer, parts: VecDeque<Lasting>, last: usize, tag: Tag) {
-    for lasting in parts {
-        out.begin(tag);
-        put_classes(out, classes_of(lasting.from, lasting.to, last));
-        out.within();
-        out.put_part(&lasting.part);
-        out.end();
-    }
+/// Begins an element that the pages from one up to another have, given the number of the last page.
+pub fn begin_lasting(out: &mut Writer, tag: Tag, from: usize, to: usize, last: usize) {
+    out.begin(tag);
+    put_classes(out, classes_of(from, to, last));
 }
 
 /// Begins the element of parts with these classes, if there are any.
@@ -61,64 +56,4 @@ fn put_classes(out: &mut Writer, classes: Classes) {
             out.value(Attr::Class, &words);
         }
     }
-}
-
-/// Adds the button of a page, which is pressed at first if it is that of the last one.
-pub fn put_button(out: &mut Writer, number: usize, last: usize, label: &[PagePiece]) {
-    out.begin_as(Tag::Input, "rd");
-    out.value(Attr::Kind, &[Words("radio")]);
-    out.value(Attr::Name, &[Words("round")]);
-    out.value(Attr::Id, &[Words("r"), Count(number)]);
-    out.value(Attr::Label, label);
-    if number == last {
-        out.value(Attr::Checked, &[Words("checked")]);
-    }
-    out.end();
-}
-
-/// Adds the words on a button.
-pub fn put_button_words(out: &mut Writer, number: usize, words: &[PagePiece]) {
-    out.begin(Tag::InputLabel);
-    out.value(Attr::For, &[Words("r"), Count(number)]);
-    out.within();
-    out.put(words);
-    out.end();
-}
-
-/// Adds the rules of style by which the button of a page hides what it has not: a part that a later
-/// page has first, and one that an earlier page has last. The buttons stand before `main`, in the
-/// order of the pages.
-pub fn put_rules(out: &mut Writer, last: usize) {
-    for number in 0..last {
-        let next = number.saturating_add(1);
-        out.put(&[
-            Words("#r"),
-            Count(number),
-            Words("~.rd:checked~main .t"),
-            Count(number),
-            Words(",.rd:checked~#r"),
-            Count(next),
-            Words("~main .f"),
-            Count(next),
-            Words(",\n"),
-        ]);
-    }
-    out.put(&[Words(".none{display:none}\n")]);
-    for number in 0..last {
-        put_pressed(out, number);
-        out.put(&[Words(",")]);
-    }
-    put_pressed(out, last);
-    out.put(&[Words("{background:var(--ink);color:var(--paper)}\n")]);
-}
-
-/// Adds which words are those of the button that is pressed, if it is that of this page.
-fn put_pressed(out: &mut Writer, number: usize) {
-    out.put(&[
-        Words("#r"),
-        Count(number),
-        Words(":checked~nav [for=r"),
-        Count(number),
-        Words("]"),
-    ]);
 }
