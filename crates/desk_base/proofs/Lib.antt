@@ -4,6 +4,7 @@ pub mod ComingLemmas
 pub mod Laid
 pub mod MomentLemmas
 pub mod PlayedLemmas
+pub mod PositionLemmas
 pub mod Refusals
 pub mod SetLemmas
 mod ReasonLemmas

@@ -6,10 +6,8 @@ use Rattle.std.specs.Prelude.{◌==◌, ◌&&◌}
 use Rattle.desk_base.proofs.SetLemmas.{keeps_number, number_by_next, number_in_round}
 use Rattle.desk_base.specs.Moments.{IsAfterRound, IsBehind, IsFromStart, IsNumbered, ShowsBetween, StandsIn, end_shown}
 use Rattle.desk_base.specs.Moments.{is_awaited, is_last}
-use Rattle.desk_base.specs.NextRound.{IsAfter}
 use Rattle.desk_base.specs.SetNumber.{end_after, number_in_set, set_of}
 use Rattle.desk_base.specs.declared.between_rounds.Stood.{Stood}
-use Rattle.desk_base.specs.declared.next_round.Coming.{Coming}
 use Rattle.events.specs.declared.event.Event.{Event}
 use Rattle.rounds.proofs.Forward.{posted_small}
 use Rattle.rounds.proofs.StepByStep.{same_place, steps_reach}
@@ -218,22 +216,4 @@ it_comes_next play stood asked shows end posted from_start =
         comes = awaited_next reached.here.next reached.here.game.events asked awaited;
         posted = posted;
       };
-    }
-
--- a game that a state of its play shows, after a round that was just played, is the file's game after that round
-pub is_coming_after : (file : List ℕ) (after : Round) (play : Underway) (stood : Stood) (coming : Coming)
-    → IsBehind file after play → StandsIn play stood → game_so_far play ≡ Some coming.history → coming.end ≡ stood.end
-    → coming.sheets.now ≡ file → IsAfter file after coming
-is_coming_after file after play stood coming behind shows game end sheets =
-    let from_start : IsFromStart play.file play =
-    subst (λ (its : List ℕ). IsFromStart its play) (sym behind.file_is) behind.from_start in
-    let there = shows.there behind.there behind.at from_start in
-    let so_far : Some behind.there.game ≡ Some coming.history = sym (ap game_there behind.at) ∙ game in
-    let is_game : coming.history ≡ behind.there.game = cc in
-    record {
-      there = behind.there;
-      is_after = behind.after;
-      game = is_game;
-      end = end ∙ there.end;
-      sheets = sheets;
     }

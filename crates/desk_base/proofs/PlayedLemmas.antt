@@ -8,8 +8,8 @@ use Rattle.std.proofs.lemmas.List.Folds.{list_any-append}
 use Rattle.std.specs.List.{list_any}
 use Rattle.std.specs.Option.{option_or}
 use Rattle.desk_base.proofs.MomentLemmas.{same_round_is, same_round_self}
-use Rattle.desk_base.specs.Moments.{IsAfterRound, IsBefore, IsBehind, IsFromStart, StandsIn, is_awaited, is_last}
-use Rattle.desk_base.specs.Played.{HasNoRound, IsMomentFault, IsNotPlayedIn, IsPlayedIn, IsRoundFault, ShowsNone, begins}
+use Rattle.desk_base.specs.Moments.{IsBefore, IsBehind, IsFromStart, StandsIn, is_awaited, is_last}
+use Rattle.desk_base.specs.Played.{IsMomentFault, IsNotPlayedIn, IsPlayedIn, IsRoundFault, ShowsNone, begins}
 use Rattle.desk_base.specs.Played.{is_played, is_round, round_asked, was_played}
 use Rattle.desk_base.specs.Refusal.{HasNone}
 use Rattle.desk_base.specs.declared.between_rounds.Moment.{Moment}
@@ -229,18 +229,9 @@ last_of first events round (Some later) begun some is =
     let played : was_played events round ≡ true = begun round (some ∙ its) in
     ap (λ (it : Bool). is_round round (round_begun_by first) || it) played ∙ or-true (is_round round (round_begun_by first))
 
-last_begun : (events : List Event) (round : Round) → round_of events ≡ Some round → was_played events round ≡ true
+pub last_begun : (events : List Event) (round : Round) → round_of events ≡ Some round → was_played events round ≡ true
 last_begun [] round is = absurd (cc)
 last_begun (first ∷ events) round is = last_of first events round (round_of events) (last_begun events) refl is
-
-pub last_was_played : (played : Played) (file : List ℕ) (round : Round) → played.file ≡ file → IsTheGame played
-    → round_of played.game.events ≡ Some round → IsPlayedIn file round
-last_was_played played file round of_file game is =
-    record {
-      played = played;
-      of_file = record { of_file = of_file; game = game };
-      is = last_begun played.game.events round is;
-    }
 
 -- and where none began, none was
 pub none_was_played : (played : Played) (file : List ℕ) → played.file ≡ file → IsTheGame played
@@ -257,57 +248,6 @@ pub round_was_not_played : (played : Played) (file : List ℕ) (asked : Option R
     → IsTheGame played → is_played played.game.events (round_asked played asked) ≡ false → IsNotPlayedIn file asked
 round_was_not_played played file asked of_file game none =
     record { played = played; of_file = record { of_file = of_file; game = game }; none = none }
-
--- one more event in front leaves a last round
-begun_in : (first : Event) (events : List Event) (round : Round) (later : Option Round)
-    → (was_played events round ≡ true → round_of events ≡ None → ⊥) → round_of events ≡ later
-    → was_played (first ∷ events) round ≡ true → option_or (round_of events) (round_begun_by first) ≡ None → ⊥
-begun_in first events round (Some later) before is played none =
-    let its : Some later ≡ None = sym (ap (λ (it : Option Round). option_or it (round_begun_by first)) is) ∙ none in
-    absurd (cc)
-begun_in first events round None before is played none =
-    let first_is : round_begun_by first ≡ None =
-    sym (ap (λ (it : Option Round). option_or it (round_begun_by first)) is) ∙ none in
-    let rest : was_played events round ≡ true =
-    sym (ap (λ (it : Option Round). is_round round it || was_played events round) first_is) ∙ played in
-    before rest is
-
--- where a round was played, a last one began
-some_begun : (events : List Event) (round : Round) → was_played events round ≡ true → round_of events ≡ None → ⊥
-some_begun [] round played none = true≢false (sym played)
-some_begun (first ∷ events) round played none = begun_in first events round (round_of events) (some_begun events round) refl played none
-
--- after a round it was played
-after_was_played : RoundsOnlyAdd → (file : List ℕ) (round : Round) (there : Between) → IsAfterRound file round there
-    → was_played there.game.events round ≡ true
-after_was_played adds file round there after =
-    let grows = adds file after.before there after.played in
-    let its : same_round after.played.round round ≡ true =
-    ap (λ (it : Round). same_round it round) after.is_round ∙ same_round_self round in
-    ap (λ (game : Game). was_played game.events round) grows.added
-    ∙ list_any-append (begins round) after.before.game.events (event.Round after.played.round ∷ grows.more)
-    ∙ ap (λ (it : Bool). was_played after.before.game.events round || (it || was_played grows.more round)) its
-    ∙ or-true (was_played after.before.game.events round)
-
--- so a game behind a round has a last round
-pub has_one_behind : RoundsOnlyAdd → (fault : DeskFault) (file : List ℕ) (round : Round) (play : Underway) (game : Game)
-    → IsBehind file round play → game_so_far play ≡ Some game → HasNoRound game.events fault
-    → IsRoundFault file (Some round) fault
-has_one_behind adds desk.Round file round play game behind so_far none =
-    let its : Some behind.there.game ≡ Some game = sym (ap game_there behind.at) ∙ so_far in
-    let is : behind.there.game ≡ game = cc in
-    absurd (some_begun game.events round
-    (subst (λ (it : Game). was_played it.events round ≡ true) is
-    (after_was_played adds file round behind.there behind.after)) none)
-has_one_behind adds desk.Memory file round play game behind so_far none = tt
-has_one_behind adds (desk.File fault) file round play game behind so_far none = absurd none
-
--- and one without a last round played none
-pub none_at_last : (fault : DeskFault) (played : Played) (file : List ℕ) → played.file ≡ file → IsTheGame played
-    → HasNoRound played.game.events fault → IsRoundFault file None fault
-none_at_last desk.Round played file of_file game none = none_was_played played file of_file game none
-none_at_last desk.Memory played file of_file game none = tt
-none_at_last (desk.File fault) played file of_file game none = absurd none
 
 -- the last round that began was played, so there are turns of it
 pub has_turns : (events : List Event) (round : Round) → round_of events ≡ Some round → was_played events round ≡ false → ⊥

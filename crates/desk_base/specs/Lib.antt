@@ -6,9 +6,9 @@ pub mod Coming
 pub mod Fault
 pub mod Laid
 pub mod Moments
-pub mod NextRound
 pub mod Objections
 pub mod Played
+pub mod Positions
 pub mod Reason
 pub mod Refusal
 pub mod SetNumber

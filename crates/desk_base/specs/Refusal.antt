@@ -10,15 +10,3 @@ abbrev pub HasNone : DeskFault → List ℕ → Type 0
 HasNone (File fault) file = content_of file ≡ Err fault
 HasNone Round file = ⊥
 HasNone Memory file = ⊤
-
--- no file is refused by this fault: a round is not played, or allocation failed
-abbrev pub IsOfGame : DeskFault → Type 0
-IsOfGame (File fault) = ⊥
-IsOfGame Round = ⊤
-IsOfGame Memory = ⊤
-
--- of a file there is no state, by this fault
-abbrev pub HasNoState : DeskFault → List ℕ → Type 0
-HasNoState (File fault) file = content_of file ≡ Err fault
-HasNoState Round file = ⊤
-HasNoState Memory file = ⊤

@@ -3,17 +3,16 @@ ghost use Rattle.std.specs.Prelude.{◌≡◌, IfErr, IfOk, MatchOption, None, O
 ghost use Rattle.desk_base.specs.Moments.{IsBefore, IsBehind, IsFromStart, IsNumbered, ShowsBetween, StandsIn};
 ghost use Rattle.desk_base.specs.Moments.{end_shown, is_awaited, is_last};
 ghost use Rattle.desk_base.specs.Played.{IsRoundFault};
-ghost use Rattle.desk_base.specs.Refusal.{IsOfGame};
-ghost use Rattle.desk_base.specs.SetNumber.{IsNumberPlayed, number_in_set};
+ghost use Rattle.desk_base.specs.SetNumber.{number_in_set};
 ghost use Rattle.rounds.specs.Steps.{ComesNext, game_so_far};
-ghost use Rattle.rounds.specs.Play.{Between, IsTheGame};
+ghost use Rattle.rounds.specs.Play.{Between};
 ghost use Rattle.rounds.specs.declared.game.End.TheVariants.{Awaiting};
 
 use crate::fault::DeskFault;
-use crate::set_number::{end_after, number_after, number_in_set};
+use crate::set_number::{end_after, number_after};
 use best_run::Search;
 use history::History;
-use rounds::{End, Game, Play, Step};
+use rounds::{End, Play, Step};
 use sheets::Sheets;
 use std::alloc::{AllocError, Global};
 use tables::{Round, same_round};
@@ -42,22 +41,6 @@ pub struct Stood<'a> {
     pub end: End,
     /// The number of operating rounds of the set, or of the set that the next round begins.
     pub in_set: u8,
-}
-
-/// Returns a game after the last round that its sheets play.
-pub fn stood_at_last<'a>(game: &'a Game<'a>) -> Stood<'a>
-    requires { IsTheGame game.now }
-    ensures file { result.sheets.now ≡ game.now.file }
-    ensures game { result.history.now ≡ game.now.game }
-    ensures end { result.end ≡ game.now.end }
-    ensures in_set { IsNumberPlayed game.now result.in_set }
-{
-    Stood {
-        sheets: game.sheets(),
-        history: game.history(),
-        end: game.outcome(),
-        in_set: number_in_set(game),
-    }
 }
 
 /// Returns a game after the rounds that were played; `None` once a fault has stopped play.
@@ -110,14 +93,13 @@ fn end_shown(outcome: Option<End>, last: Option<Round>, history: &History) -> En
 /// Plays the game of some sheets up to the end of a round. Fails with `Round` if that round is not
 /// played.
 #[tactic(auto, using(crate::proofs::MomentLemmas::at_start, crate::proofs::MomentLemmas::one_step_on, crate::proofs::PlayedLemmas::none_at_first, crate::proofs::PlayedLemmas::none_one_step_on, crate::proofs::PlayedLemmas::last_is_other, crate::proofs::PlayedLemmas::not_played_at_end))]
-pub fn play_behind<'a>(
+pub(crate) fn play_behind<'a>(
     alloc: Global,
     sheets: &'a Sheets<'a>,
     asked: Round,
 ) -> Result<Play<'a>, DeskFault>
     ensures behind { IfOk result (IsBehind sheets.now asked) }
     ensures fault { IfErr result (IsRoundFault sheets.now (Some asked)) }
-    ensures of_game { IfErr result IsOfGame }
 {
     // Laws, which do nothing when they run, and the number of players, at least three.
     rounds::laws::rounds_only_add();
@@ -138,14 +120,13 @@ pub fn play_behind<'a>(
 /// Plays the game of some sheets up to the start of a round. Fails with `Round` if that round is
 /// not played.
 #[tactic(auto, using(crate::proofs::MomentLemmas::at_start, crate::proofs::MomentLemmas::one_step_on, crate::proofs::PlayedLemmas::none_at_first, crate::proofs::PlayedLemmas::none_one_step_on, crate::proofs::PlayedLemmas::next_is_other, crate::proofs::PlayedLemmas::not_played_at_end))]
-pub fn play_before<'a>(
+pub(crate) fn play_before<'a>(
     alloc: Global,
     sheets: &'a Sheets<'a>,
     asked: Round,
 ) -> Result<Play<'a>, DeskFault>
     ensures before { IfOk result (IsBefore sheets.now asked) }
     ensures fault { IfErr result (IsRoundFault sheets.now (Some asked)) }
-    ensures of_game { IfErr result IsOfGame }
 {
     // A law, which does nothing when it runs.
     rounds::laws::rounds_only_add();

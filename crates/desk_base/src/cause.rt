@@ -48,7 +48,7 @@ pub enum Cause {
     RunsNone,
     /// S1, of RAISE: the company must buy one, and it and its president have enough money.
     NotShort,
-    /// S5: the president would keep under two shares, and nobody else has two.
+    /// S5: the president would keep fewer than two shares, and nobody else has two.
     NobodyElse,
     /// S5, of RAISE: the presidency of the company that operates would move.
     PresidencyMoves,

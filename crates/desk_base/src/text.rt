@@ -1,7 +1,10 @@
-//! Builds a text piece by piece. Each call adds at its end, and fails only if allocation fails.
+//! Builds a text piece by piece. Each call adds at its end. A `Text` keeps the error of a failed
+//! allocation, so that a layout is written without a `?`; the functions return it.
+ghost use Rattle.std.specs.Prelude.{◌≡◌, [], IfOk, IsOk, None};
 
+use crate::wrapped::{push_wrapped, push_wrapped_lines};
 use order_grammar::{print_number, print_round};
-use std::alloc::AllocError;
+use std::alloc::{AllocError, Global};
 use tables::{Money, Round, Square};
 
 /// The least and the greatest byte that are printed unchanged.
@@ -31,6 +34,100 @@ pub enum Piece<'a> {
     Column(usize),
     /// A line of a file, cut to this many bytes. A byte that is not printable ASCII becomes `?`.
     Cut(&'a [u8], usize),
+}
+
+/// A text that is built piece by piece. Once an allocation has failed nothing more is added, and
+/// `finish` returns the error.
+#[derive(Drop)]
+pub struct Text {
+    bytes: Vec<u8>,
+    fault: Option<AllocError>,
+}
+
+impl Text {
+    /// Returns an empty text.
+    pub fn new(alloc: Global) -> Text
+        ensures bytes { result.bytes.items ≡ [] }
+        ensures fault { result.fault ≡ None }
+    {
+        Text {
+            bytes: Vec::new(alloc),
+            fault: None,
+        }
+    }
+
+    /// Adds words, with the next of some pieces in place of each `%`; nothing once no piece is
+    /// left.
+    pub fn fill(&mut self, words: &str, pieces: &[Piece])
+        ensures before { self.new.fault ≡ None → self.old.fault ≡ None }
+    {
+        if self.fault.is_none() {
+            let added = fill(&mut self.bytes, words, pieces);
+            self.note(added);
+        }
+    }
+
+    /// Adds pieces in their order.
+    pub fn push(&mut self, pieces: &[Piece])
+        ensures before { self.new.fault ≡ None → self.old.fault ≡ None }
+    {
+        if self.fault.is_none() {
+            let added = push(&mut self.bytes, pieces);
+            self.note(added);
+        }
+    }
+
+    /// Adds the words of a text to the current line, and ends it. A word that would end past column
+    /// 80 begins a new line at this column.
+    pub fn push_wrapped(&mut self, column: usize, text: &[u8])
+        ensures before { self.new.fault ≡ None → self.old.fault ≡ None }
+    {
+        if self.fault.is_none() {
+            let added = push_wrapped(&mut self.bytes, column, text);
+            self.note(added);
+        }
+    }
+
+    /// Adds the lines of a text from this column on, each wrapped.
+    pub fn push_wrapped_lines(&mut self, column: usize, text: &[u8])
+        ensures before { self.new.fault ≡ None → self.old.fault ≡ None }
+    {
+        if self.fault.is_none() {
+            let added = push_wrapped_lines(&mut self.bytes, column, text);
+            self.note(added);
+        }
+    }
+
+    /// Keeps the error of an allocation that failed as bytes were added.
+    fn note(&mut self, added: Result<(), AllocError>)
+        ensures bytes { self.new.bytes.items ≡ self.old.bytes.items }
+        ensures before { self.new.fault ≡ None → self.old.fault ≡ None }
+        ensures added { self.new.fault ≡ None → IsOk added }
+    {
+        if let Err(error) = added {
+            self.fault = Some(error);
+        }
+    }
+
+    /// Returns the bytes so far; after a failed allocation they may lack some.
+    pub fn bytes(&self) -> &[u8]
+        ensures { result.now ≡ self.now.bytes.items }
+    {
+        self.bytes.as_slice()
+    }
+
+    /// Returns the bytes of the text, or the error if an allocation has failed.
+    pub fn finish(self) -> Result<Vec<u8>, AllocError>
+        ensures fault { self.fault ≡ None → IsOk result }
+        ensures bytes { IfOk result (λ bytes. bytes.items ≡ self.bytes.items) }
+        ensures none { IfOk result (λ _. self.fault ≡ None) }
+    {
+        let Text { bytes, fault } = self;
+        match fault {
+            None => Ok(bytes),
+            Some(error) => Err(error),
+        }
+    }
 }
 
 /// Adds words, with the next of some pieces in place of each `%`; nothing once no piece is left.

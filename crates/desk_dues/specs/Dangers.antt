@@ -39,7 +39,7 @@ operator_of company president = record { company = company; president = presiden
 abbrev pub price_of_kind : Kind → ℕ
 price_of_kind kind = (trains_of kind).price
 
--- what a company lacks for a train of a kind; under 0 if it has more than its price
+-- what a company lacks for a train of a kind; less than 0 if it has more than its price
 abbrev pub lacking_for : Game → Company → Kind → ℤ
 lacking_for game company kind = pos (price_of_kind kind) -ℤ cash_of game.seats game.events (party_of_company company)
 
@@ -50,7 +50,7 @@ is_beyond game by kind =
     lt_z (free_cash_of game.seats game.events by.president)
     (lacking_for game by.company kind -ℤ pos (raised_at_most_by game by))
 
--- a company buys its train from the pool then: the bank sells only greater ones
+-- a company buys its train from the pool then: the bank sells only later kinds
 abbrev pub is_bought_from_pool : List Event → Fall → Kind → Bool
 is_bought_from_pool events fall buys = not (same_kind buys (least_then events fall.falls_with))
 

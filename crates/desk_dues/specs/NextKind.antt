@@ -91,7 +91,7 @@ abbrev pub kept_with : List Event → Company → Kind → ℤ
 kept_with events company new =
     train_count events (Some company) -ℤ rusting_held events company (rusted_with new)
 
--- how many trains a company has to discard with the first train of a kind: those over the limit of
+-- how many trains a company must give up with the first train of a kind: those above the limit of
 -- its phase
 abbrev pub discarded_with : List Event → Company → Kind → ℕ
 discarded_with events company new = at_least_zero (kept_with events company new -ℤ pos (limit_of new))

@@ -1,5 +1,5 @@
 -- The train that a company without one must buy once the first train of a kind has been sold, if
--- nothing else is bought, sold or discarded until then than what the bank sells before it. It is
+-- nothing else is bought, sold or given up until then than what the bank sells before it. It is
 -- the cheapest that the bank or the pool sells then.
 use Rattle.std.specs.Prelude.{◌&&◌, Bool, false, not, nat_lt, if◌then◌else◌, List, Option, None, Some, find, pos, unwrap_or}
 use Rattle.std.specs.Int.Signed.{lt_z}
@@ -16,7 +16,7 @@ abbrev pub are_gone_with : Kind → Option Kind → Bool
 are_gone_with new None = false
 are_gone_with new (Some rusting) = not (nat_lt (index_of_kind new) (index_of_kind rusting))
 
--- the least kind that the bank sells then: a 6 may be left when the first D is sold; of every other
+-- the lowest kind that the bank sells then: a 6 may be left when the first D is sold; of every other
 -- kind that has begun its phase some are left
 abbrev pub least_then : List Event → Kind → Kind
 least_then events new = if same_kind new Diesel && is_left events Six then Six else new

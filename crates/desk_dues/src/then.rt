@@ -28,7 +28,7 @@ fn first_cheaper(history: &History, new: Kind, among: &[Kind]) -> Option<Kind>
         .find(|kind| is_cheaper_then(history, new, *kind))
 }
 
-/// Returns the least kind that the bank sells then.
+/// Returns the lowest kind that the bank sells then.
 pub(crate) fn least_then(history: &History, new: Kind) -> Kind
     ensures { result ≡ least_then history.now.events new }
 {

@@ -1,32 +1,36 @@
 -- A round's part of the report of a file.
 use Rattle.std.proofs.Common.{◌≡◌, ℕ, true, List, Option, Some}
 use Rattle.desk_base.proofs.PlayedLemmas.{has_turns}
-use Rattle.desk_base.specs.Played.{HasNoRound, IsRoundFault, is_played, round_asked}
-use Rattle.desk_round.specs.RoundPart.{HasNoText, HasNoTurns, IsRoundPart, text_of_round}
+use Rattle.desk_base.specs.Played.{HasNoRound, round_asked, was_played}
+use Rattle.desk_round.specs.RoundPart.{HasNoTurns, IsRoundOfGame, IsRoundPart}
+use Rattle.desk_round.specs.declared.played_game.RoundOfGame.{RoundOfGame}
 use Rattle.desk_base.specs.declared.fault.DeskFault.{DeskFault}
 use Rattle.desk_base.specs.declared.fault.DeskFault.TheVariants.{File, Round, Memory}
 use Rattle.events.specs.declared.event.Event.{Event}
-use Rattle.rounds.specs.Play.{IsTheGame, Played}
+use Rattle.report.specs.Report.{round_text_of}
+use Rattle.rounds.specs.Play.{IsTheGame}
 use Rattle.tables.specs.declared.round.Round as the_round
 use Rattle.totals.specs.LookBack.{round_of}
 
--- the text of the round that is asked for in the game of a file
-pub part_of_file :
-    (played : Played) (asked : Option the_round.Round) (file text : List ℕ) → played.file ≡ file → IsTheGame played →
-    text ≡ text_of_round played (round_asked played asked)
-    → is_played played.game.events (round_asked played asked) ≡ true → IsRoundPart file asked text
-part_of_file played asked file text of_file game is was_played =
-    record { played = played; of_file = record { of_file = of_file; game = game }; is = is; was_played = was_played }
+-- a round that a game of a file played is the one that is asked for
+pub is_round_of_game : (its : RoundOfGame) (asked : Option the_round.Round) (file : List ℕ) → its.game.file ≡ file
+    → IsTheGame its.game → round_asked its.game asked ≡ Some its.round → was_played its.game.game.events its.round ≡ true
+    → IsRoundOfGame file asked its
+is_round_of_game its asked file of_file game named was_played =
+    record { of_file = record { of_file = of_file; game = game }; named = named; was_played = was_played }
 
--- why there is none
-pub no_part_of_file :
-    (fault : DeskFault) (played : Played) (asked : Option the_round.Round) (file : List ℕ) → played.file ≡ file
-    → IsTheGame played →
-    HasNoText played (round_asked played asked) fault → IsRoundFault file asked fault
-no_part_of_file Round played asked file of_file game none =
-    record { played = played; of_file = record { of_file = of_file; game = game }; none = none }
-no_part_of_file Memory played asked file of_file game none = tt
-no_part_of_file (File fault) played asked file of_file game none = absurd none
+-- its text is that of the round
+pub is_round_part : (its : RoundOfGame) (asked : Option the_round.Round) (file text : List ℕ)
+    → IsRoundOfGame file asked its → text ≡ round_text_of its.game its.round → IsRoundPart file asked text
+is_round_part its asked file text of_game is =
+    record {
+      played = its.game;
+      of_file = of_game.of_file;
+      round = its.round;
+      named = of_game.named;
+      was_played = of_game.was_played;
+      is = is;
+    }
 
 -- the last round of a game has turns
 pub last_has_turns : (fault : DeskFault) (events : List Event) (round : the_round.Round)

@@ -58,11 +58,11 @@ abbrev pub whose_of : Seat → Option SheetLine → Whose
 whose_of seat None = whose.Seat seat
 whose_of seat (Some line) = whose_place seat line.place
 
--- whose turn a line of a sheet is of: the company's among whose orders it is, or else its player's
+-- whose turn a line of a sheet is of: the company's among whose orders it is, or otherwise its player's
 abbrev pub whose_line : List SheetLine → Seat → ℕ → Whose
 whose_line lines seat number = whose_of seat (line_at lines seat number)
 
--- whose turn an event belongs to that begins no turn: nobody's behind a pass, or else that of the event before
+-- whose turn an event belongs to that begins no turn: nobody's after a pass, otherwise that of the event before
 abbrev pub whose_behind : Whose → Bool → Whose
 whose_behind now has_passed = if has_passed then whose.Nobody else now
 
@@ -99,7 +99,7 @@ with_one group passed = record { whose = group.whose; from = group.from; to = pa
 abbrev pub one_of : Whose → ℕ → Group
 one_of whose passed = record { whose = whose; from = passed; to = passed + 1 }
 
--- an event of this turn belongs to the group that goes on, if that is of the same party, or else ends it and begins another
+-- an event of this turn belongs to the group that goes on if that is of the same party, and otherwise begins another
 abbrev pub joined : Option Group → Whose → ℕ → Bool → Grouped
 joined None its passed is_pass = going_on None (one_of its passed) is_pass
 joined (Some group) its passed is_pass =

@@ -1,11 +1,7 @@
--- Of which round the runs are told: of that which is asked for, if it was played; otherwise of the last
--- in which a company ran, or of the last that was played if none ran.
-use Rattle.std.specs.Prelude.{ℕ, ◌+◌, Bool, false, if◌then◌else◌, List, [], ◌++◌, Option, Some, None, Result, Ok, Err}
+-- Of which round the runs are told: of that which is asked for; otherwise of the last in which a company ran,
+-- or of the last that was played if none ran.
+use Rattle.std.specs.Prelude.{ℕ, ◌+◌, Bool, false, if◌then◌else◌, List, [], ◌++◌, Option, Some, None, unwrap_or}
 use Rattle.std.specs.List.{cons_option, fold}
-use Rattle.std.specs.Option.{option_or}
-use Rattle.desk_base.specs.declared.fault.DeskFault.{DeskFault}
-use Rattle.desk_base.specs.declared.fault.DeskFault.TheVariants as desk
-use Rattle.desk_base.specs.Played.{was_played}
 use Rattle.desk_round.specs.declared.train_runs.RunRow.{RunRow}
 use Rattle.desk_round.specs.declared.train_runs.Seen.{Seen}
 use Rattle.desk_why.specs.Refused.{within_then}
@@ -13,7 +9,6 @@ use Rattle.events.specs.declared.event.Event.{Event}
 use Rattle.events.specs.declared.event.Event.TheVariants.{Round as Begun, Ruled, Runs}
 use Rattle.tables.specs.declared.roster.Company.{Company}
 use Rattle.tables.specs.declared.round.Round.{Round}
-use Rattle.totals.specs.LookBack.{round_of}
 
 -- after one more event
 abbrev pub seen_then : Seen → Event → Seen
@@ -25,15 +20,10 @@ seen_then seen other = seen
 abbrev pub last_with_runs : List Event → Option Round
 last_with_runs events = (fold seen_then (record { begun = None; ran = None }) events).ran
 
--- that round, if there is one
-abbrev pub round_if : Option Round → Result Round DeskFault
-round_if None = Err desk.Round
-round_if (Some round) = Ok round
-
--- the round of which the runs are told
-abbrev pub round_of_runs : List Event → Option Round → Result Round DeskFault
-round_of_runs events (Some round) = if was_played events round then Ok round else Err desk.Round
-round_of_runs events None = round_if (option_or (last_with_runs events) (round_of events))
+-- the round of which the runs are told, in a game that played this round last
+abbrev pub round_of_runs : List Event → Round → Option Round → Round
+round_of_runs events last (Some round) = round
+round_of_runs events last None = unwrap_or (last_with_runs events) last
 
 -- how many events precede the last ruling of a line, with one more event
 abbrev pub ruled_then : Option ℕ → ℕ → Event → Option ℕ

@@ -57,7 +57,8 @@ pub(crate) struct Grouping {
     group: Option<Group>,
 }
 
-/// What an event brings: the group that ends before it, if one does, and how far it is behind it.
+/// What an event brings: the group that ends before it, if one does, and how far it has come behind
+/// it.
 #[derive(Clone, Copy)]
 pub(crate) struct Grouped {
     ended: Option<Group>,

@@ -11,7 +11,7 @@
 //! assert!(rt; text.as_slice().starts_with(b"ROUND PR1\nANN 2 OBEYED"));
 //! ```
 //!
-//! Reading order: `round_part` (`round`), `round_texts` (the game of a file),
+//! Reading order: `played_game` (a game, and a round that it played), `round_part` (`round`),
 //! `train_runs` (`runs`), `groups` (whose turn an event belongs to), `changes` (whose cash
 //! changed), `left_lines` (lines that were not reached), `bulletin_text` (`turns`). `desk_why`
 //! finds why a line was refused.
@@ -21,8 +21,8 @@ mod bulletin_text;
 mod changes;
 mod groups;
 mod left_lines;
+mod played_game;
 mod round_part;
-mod round_texts;
 mod train_runs;
 
 pub use bulletin_text::{turns, turns_in_short};

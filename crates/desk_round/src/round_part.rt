@@ -1,16 +1,16 @@
 //! A round's part of the report, with or without the rules that refused lines broke.
-ghost use Rattle.std.specs.Prelude.{◌≡◌, IfErr, IfOk, OnOk, true};
-ghost use Rattle.desk_base.specs.Played.{IsRoundFault, is_played, round_asked};
-ghost use Rattle.desk_round.specs.RoundPart.{HasNoText, IsRoundPart, text_of_round};
+ghost use Rattle.std.specs.Prelude.{IfErr, IfOk, OnOk};
+ghost use Rattle.desk_base.specs.Played.{IsRoundFault};
+ghost use Rattle.desk_round.specs.RoundPart.{IsRoundPart};
 ghost use Rattle.sheets.specs.File.{IsAccepted};
 
-use crate::round_texts::{Told, tell};
+use crate::played_game::round_of_game;
 use desk_base::Piece::Bytes;
-use desk_base::{DeskFault, fill, push, round_asked, view_behind, was_played};
+use desk_base::{DeskFault, fill, push, view_behind};
 use desk_why::{Ruled, SheetLine, lines_of, push_why, refused_in};
 use history::{Event, Walk};
 use report::round_text;
-use rounds::{Game, play};
+use rounds::Game;
 use sheets::{Sheets, collect, first_line};
 use std::alloc::{AllocError, Global};
 use tables::Round;
@@ -24,21 +24,22 @@ pub fn round(alloc: Global, file: &[u8], asked: Option<Round>) -> Result<Vec<u8>
     ensures fault { IfErr result (IsRoundFault file.now asked) }
 {
     let sheets = collect(alloc, file)?;
-    part_in(alloc, &sheets, asked)
+    round_by(alloc, &sheets, asked)
 }
 
-/// Returns that part of the report for some sheets.
-#[tactic(auto, using(crate::proofs::RoundParts::part_of_file, crate::proofs::RoundParts::no_part_of_file))]
-fn part_in(alloc: Global, sheets: &Sheets, asked: Option<Round>) -> Result<Vec<u8>, DeskFault>
+/// Returns that part of the report of some sheets.
+#[tactic(auto, using(crate::proofs::RoundParts::is_round_part))]
+fn round_by(alloc: Global, sheets: &Sheets, asked: Option<Round>) -> Result<Vec<u8>, DeskFault>
     ensures part { IfOk result (λ text. IsRoundPart sheets.now asked text.items) }
     ensures fault { IfErr result (IsRoundFault sheets.now asked) }
 {
-    let game = play(alloc, sheets)?;
-    text_of(alloc, &game, round_asked(&game, asked))
+    let its = round_of_game(alloc, sheets, asked)?;
+    Ok(round_text(alloc, &its.game, its.round)?)
 }
 
 /// Returns the same text with a line below each refused line: two spaces, the code and the sentence
 /// of the rule that it broke, and the figures that the rule compared, if they are known.
+#[tactic(auto, using(desk_base::proofs::Refusals::none_where_it_fails, desk_base::proofs::PlayedLemmas::no_round_where_it_fails))]
 pub fn round_with_rules(
     alloc: Global,
     file: &[u8],
@@ -47,43 +48,19 @@ pub fn round_with_rules(
     ensures accepted { OnOk result (IsAccepted file.now) }
     ensures fault { IfErr result (IsRoundFault file.now asked) }
 {
-    tell(alloc, file, asked, Told::Rules)
+    let sheets = collect(alloc, file)?;
+    rules_by(alloc, &sheets, asked)
 }
 
-/// Returns that part of a game's report, with the broken rules.
-pub(crate) fn rules_of(
-    alloc: Global,
-    game: &Game,
-    asked: Option<Round>,
-) -> Result<Vec<u8>, DeskFault>
-    ensures { IfErr result (HasNoText game.now (round_asked game.now asked)) }
+/// Returns that text of the game of some sheets.
+fn rules_by(alloc: Global, sheets: &Sheets, asked: Option<Round>) -> Result<Vec<u8>, DeskFault>
+    ensures { IfErr result (IsRoundFault sheets.now asked) }
 {
-    let Some(round) = round_asked(game, asked) else {
-        return Err(DeskFault::Round);
-    };
-    let text = text_of(alloc, game, Some(round))?;
+    let its = round_of_game(alloc, sheets, asked)?;
+    let text = round_text(alloc, &its.game, its.round)?;
     let mut out = Vec::new(alloc);
-    push_with_rules(alloc, &mut out, game, round, text.as_slice())?;
+    push_with_rules(alloc, &mut out, &its.game, its.round, text.as_slice())?;
     Ok(out)
-}
-
-/// Returns the text of a round of a game. Fails with `Round` if it was not played.
-pub(crate) fn text_of(
-    alloc: Global,
-    game: &Game,
-    asked: Option<Round>,
-) -> Result<Vec<u8>, DeskFault>
-    ensures text { IfOk result (λ text. text.items ≡ text_of_round game.now asked) }
-    ensures played { OnOk result (is_played game.now.game.events asked ≡ true) }
-    ensures fault { IfErr result (HasNoText game.now asked) }
-{
-    let Some(round) = asked else {
-        return Err(DeskFault::Round);
-    };
-    if !was_played(game.history().events(), round) {
-        return Err(DeskFault::Round);
-    }
-    Ok(round_text(alloc, game, round)?)
 }
 
 /// Adds the text of a round, with the broken rule below each refused line. The text begins with one

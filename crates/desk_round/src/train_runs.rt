@@ -1,20 +1,18 @@
 //! What the trains of each company ran in a round, stop by stop.
 ghost use Rattle.std.specs.Prelude.{◌≡◌, ◌++◌, IfErr, IfOk, OnOk};
-ghost use Rattle.desk_base.specs.Played.{IsRoundFault, round_asked};
-ghost use Rattle.desk_round.specs.RoundPart.{HasNoText};
+ghost use Rattle.desk_base.specs.Played.{IsRoundFault};
 ghost use Rattle.desk_round.specs.RunsRound.{last_with_runs, ran, round_of_runs, ruled_then, run_by};
 ghost use Rattle.desk_round.specs.RunsRound.{runs_by, runs_in, seen_then};
 ghost use Rattle.sheets.specs.File.{IsAccepted};
 
-use crate::round_texts::{Told, tell};
 use desk_base::Piece::{Number, Words};
 use desk_base::{
-    DeskFault, Piece, best_at, board_at, fill, push, push_run, view_behind, was_played,
+    DeskFault, Piece, best_at, board_at, fill, played_round, push, push_run, view_behind,
 };
 use desk_why::within_then;
 use history::{Event, GameView, History, Ruling, Walk};
 use order_grammar::{Order, PlayOrder};
-use rounds::Game;
+use sheets::{Sheets, collect};
 use std::alloc::{AllocError, Global};
 use tables::{Amount, Company, Money, Round};
 
@@ -23,42 +21,35 @@ use tables::{Amount, Company, Money, Round};
 /// earn the most. If nothing ran, a line says so. If no round is named, it takes the last in which
 /// a company ran, or the last one played if none ran. Fails with `Round` if the named round was not
 /// played, or no round was.
+#[tactic(auto, using(desk_base::proofs::Refusals::none_where_it_fails, desk_base::proofs::PlayedLemmas::no_round_where_it_fails))]
 pub fn runs(alloc: Global, file: &[u8], asked: Option<Round>) -> Result<Vec<u8>, DeskFault>
     ensures accepted { OnOk result (IsAccepted file.now) }
     ensures fault { IfErr result (IsRoundFault file.now asked) }
 {
-    tell(alloc, file, asked, Told::Runs)
+    let sheets = collect(alloc, file)?;
+    runs_of(alloc, &sheets, asked)
 }
 
-/// Returns what each company ran in a round of a game.
-pub(crate) fn runs_of(
-    alloc: Global,
-    game: &Game,
-    asked: Option<Round>,
-) -> Result<Vec<u8>, DeskFault>
-    ensures { IfErr result (HasNoText game.now (round_asked game.now asked)) }
+/// Returns the same of the game of some sheets.
+fn runs_of(alloc: Global, sheets: &Sheets, asked: Option<Round>) -> Result<Vec<u8>, DeskFault>
+    ensures { IfErr result (IsRoundFault sheets.now asked) }
 {
-    let round = round_with_runs(game, asked)?;
+    let its = played_round(alloc, sheets, asked)?;
+    let history = &its.position.history;
+    let round = round_of_runs(history, its.round, asked);
     let mut out = Vec::new(alloc);
-    push_runs(alloc, &mut out, game.history(), round)?;
+    push_runs(alloc, &mut out, history, round)?;
     Ok(out)
 }
 
-/// Returns the named round if it was played; if none is named, the last in which a company ran, or
-/// the last that was played if none ran. Fails with `Round` otherwise.
-fn round_with_runs(game: &Game, asked: Option<Round>) -> Result<Round, DeskFault>
-    ensures round { result ≡ round_of_runs game.now.game.events asked }
-    ensures fault { IfErr result (HasNoText game.now (round_asked game.now asked)) }
+/// Returns the named round; if none is named, the last in which a company ran, or the last that was
+/// played if none ran.
+fn round_of_runs(history: &History, last: Round, asked: Option<Round>) -> Round
+    ensures { result ≡ round_of_runs history.now.events last asked }
 {
-    let history = game.history();
-    match (
-        asked,
-        last_with_runs(history.events()),
-        history.now().round(),
-    ) {
-        (Some(round), _, _) if was_played(history.events(), round) => Ok(round),
-        (None, Some(round), _) | (None, None, Some(round)) => Ok(round),
-        _ => Err(DeskFault::Round),
+    match (asked, last_with_runs(history.events())) {
+        (Some(round), _) | (None, Some(round)) => round,
+        (None, None) => last,
     }
 }
 

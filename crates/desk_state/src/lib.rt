@@ -1,9 +1,9 @@
 //! The state of a game, at its end or between two rounds, as text and as JSON, and the events of a
 //! round as JSON. No call reads or writes a stream.
 //!
-//! Each figure comes from a reader of the game's list, from `desk_base`, or from `player_figures`,
-//! `earnings`, `stack` or `standing`, whose contracts define it. The games of `games/desk/` test
-//! the layout.
+//! The tables are rows and cells of `desk_cells`, whose contracts say what each column shows; the
+//! columns of a form, with their places or names, are data. The rest is layout: the games of
+//! `games/desk/` test it.
 //!
 //! The second operating round of the first set, as a word names it:
 //!
@@ -12,42 +12,29 @@
 //! assert_eq!(rt; round, Some(Round::Operating { set: 1, number: 2 }));
 //! ```
 //!
-//! Reading order: `round_name` (the round that is asked for). Then the figures that the readers of
-//! a game do not have (`player_figures`, `earnings`, `stack`, `standing`, `state_rows`), and their
-//! layout: `lines`, `state_round`, `state_players`, `state_companies`, `state_stock`,
-//! `state_chart`, `state_map`, `whole_state` (`state`); `statement_parties`, `statement_next`,
-//! `whole_statement` (what ends a bulletin). Facts for other programs: `facts`, `state_facts`,
-//! `event_facts`, `round_events` (`round_facts`).
+//! Reading order: `round_name` (the round that is asked for). Text: `layout` (a cell at its place),
+//! `state_tables`, `state_round`, `state_tiles`, `state_chart`, `state_map`, `whole_state`
+//! (`state`); `statement_next`, `whole_statement` (what ends a bulletin). Facts for other programs:
+//! `facts`, `table_facts`, `state_facts`, `event_facts`, `round_events` (`round_facts`).
 #![tactic(auto)]
 
-mod earnings;
 mod event_facts;
 mod facts;
-mod lines;
-mod player_figures;
+mod layout;
 mod round_events;
 mod round_name;
-mod stack;
-mod standing;
 mod state_chart;
-mod state_companies;
 mod state_facts;
 mod state_map;
-mod state_players;
 mod state_round;
-mod state_rows;
-mod state_stock;
+mod state_tables;
+mod state_tiles;
 mod statement_next;
-mod statement_parties;
+mod table_facts;
 mod whole_state;
 mod whole_statement;
 
-pub use earnings::{Earnings, earnings_of};
-pub use market::operates;
-pub use player_figures::{Purse, purse_of};
 pub use round_events::round_facts;
 pub use round_name::read_round;
-pub use stack::{all_in_order, before_in_stack, company_at};
-pub use standing::{rank_of, worths_of};
 pub use whole_state::{StateForm, state, state_text};
 pub use whole_statement::statement;

@@ -5,9 +5,8 @@ ghost use Rattle.sheets.specs.File.{IsAccepted};
 
 use crate::event_facts::EventFacts;
 use crate::facts::{FORM, Fact, Object, json_line};
-use desk_base::{DeskFault, round_asked, was_played};
+use desk_base::{DeskFault, played_round};
 use history::Event;
-use rounds::play;
 use serde::{Described, Serialize, Serializer};
 use sheets::{Sheets, collect};
 use std::alloc::Global;
@@ -26,23 +25,15 @@ pub fn round_facts(alloc: Global, file: &[u8], asked: Option<Round>) -> Result<V
 }
 
 /// Returns those events of the game of some sheets.
-#[tactic(auto, using(desk_base::proofs::PlayedLemmas::round_was_not_played))]
 fn facts_in(alloc: Global, sheets: &Sheets, asked: Option<Round>) -> Result<Vec<u8>, DeskFault>
     ensures { IfErr result (IsRoundFault sheets.now asked) }
 {
-    let game = play(alloc, sheets)?;
-    let Some(round) = round_asked(&game, asked) else {
-        return Err(DeskFault::Round);
-    };
-    let events = game.history().events();
-    if !was_played(events, round) {
-        return Err(DeskFault::Round);
-    }
+    let played = played_round(alloc, sheets, asked)?;
     let facts = RoundFacts {
         alloc,
-        sheets: game.sheets(),
-        round,
-        events,
+        sheets,
+        round: played.round,
+        events: played.position.history.events(),
     };
     Ok(json_line(alloc, &facts)?)
 }

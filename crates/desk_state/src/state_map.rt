@@ -1,11 +1,10 @@
 //! The map as text, with the tiles and the tokens that lie on it.
 
-use crate::lines::end_open_line;
+use crate::layout::end_open_line;
 use desk_base::Piece::{Bytes, Column, Count, Number, Words};
-use desk_base::{fill, has_token, push, slots_on, tile_on};
+use desk_base::{Text, has_token, slots_on, tile_on};
 use history::History;
 use map_tables::{Hex, HexKind, Lay, Stop, StopNumber, TileKind, hex_kind, printed_stops, tile};
-use std::alloc::AllocError;
 use tables::{Company, Money};
 
 /// The letter after that of the map's last row.
@@ -15,36 +14,32 @@ const ROWS_END: u8 = b'L';
 const COLUMN: usize = 3;
 
 /// Adds the map: a row of hexes with what is on each, and below it the tokens of its cities.
-pub(crate) fn push_map(out: &mut Vec<u8>, history: &History) -> Result<(), AllocError> {
-    push(
-        out,
-        &[
-            Words(
-                "\nMAP\n\
-                57/2 is a tile and its rotation, 59/2s one with its stops swapped. Without a\n\
-                tile: .. plain; town, towns, city, B, NY, OO as printed; grey and red take none.\n\
-                Below are the tokens of a city, - a free slot, / between two cities.\n",
-            ),
-            Column(2),
-            Words("1  2  3  4  5  6  7  8  9  10 11 12 13 14 15 16 17 18 19 20 21 22 23 24\n"),
-        ],
-    )?;
+pub(crate) fn put_map(out: &mut Text, history: &History) {
+    out.push(&[
+        Words(
+            "\nMAP\n\
+            57/2 is a tile and its rotation, 59/2s one with its stops swapped. Without a\n\
+            tile: .. plain; town, towns, city, B, NY, OO as printed; grey and red take none.\n\
+            Below are the tokens of a city, - a free slot, / between two cities.\n",
+        ),
+        Column(2),
+        Words("1  2  3  4  5  6  7  8  9  10 11 12 13 14 15 16 17 18 19 20 21 22 23 24\n"),
+    ]);
     for row in b'A'..ROWS_END {
-        push(out, &[Bytes(&[row])])?;
+        out.push(&[Bytes(&[row])]);
         for hex in &Hex::ALL {
             if hex.row() == row {
-                push_tile(out, history.lays(), *hex)?;
+                put_tile(out, history.lays(), *hex);
             }
         }
-        fill(out, "\n", &[])?;
+        out.push(&[Words("\n")]);
         for hex in &Hex::ALL {
             if hex.row() == row {
-                push_cities(out, history, *hex)?;
+                put_cities(out, history, *hex);
             }
         }
-        end_open_line(out)?;
+        end_open_line(out);
     }
-    Ok(())
 }
 
 /// Returns the column at which a hex begins.
@@ -54,19 +49,17 @@ fn column_of(hex: Hex) -> usize {
 
 /// Adds what is on a hex: the number and the rotation of the tile that lies there, or what is
 /// printed on it.
-fn push_tile(out: &mut Vec<u8>, lays: &[Lay], hex: Hex) -> Result<(), AllocError> {
+fn put_tile(out: &mut Text, lays: &[Lay], hex: Hex) {
+    let column = Column(column_of(hex));
     match tile_on(lays, hex) {
-        Some(lay) => fill(
-            out,
-            "%%/%%",
-            &[
-                Column(column_of(hex)),
-                Number(Money::from(lay.tile.number())),
-                Count(lay.rot.turns()),
-                Words(if lay.swap { "s" } else { "" }),
-            ],
-        ),
-        None => push(out, &[Column(column_of(hex)), Words(print_of(hex))]),
+        Some(lay) => out.push(&[
+            column,
+            Number(Money::from(lay.tile.number())),
+            Words("/"),
+            Count(lay.rot.turns()),
+            Words(if lay.swap { "s" } else { "" }),
+        ]),
+        None => out.push(&[column, Words(print_of(hex))]),
     }
 }
 
@@ -88,10 +81,10 @@ fn print_of(hex: Hex) -> &'static str {
 }
 
 /// Adds the tokens in the cities of a hex, if it has any, and a mark for each slot that is free.
-fn push_cities(out: &mut Vec<u8>, history: &History, hex: Hex) -> Result<(), AllocError> {
+fn put_cities(out: &mut Text, history: &History, hex: Hex) {
     let slots = slots_on(history.lays(), hex);
     if slots == 0 {
-        return Ok(());
+        return;
     }
     for number in &[StopNumber::First, StopNumber::Second] {
         if number.index() < printed_stops(hex) {
@@ -99,22 +92,26 @@ fn push_cities(out: &mut Vec<u8>, history: &History, hex: Hex) -> Result<(), All
                 StopNumber::First => Column(column_of(hex)),
                 StopNumber::Second => Words("/"),
             };
-            push(out, &[before])?;
+            out.push(&[before]);
             let city = Stop {
                 hex,
                 number: *number,
             };
-            let mut free = slots;
-            for company in &Company::ALL {
-                if has_token(history, city, *company) {
-                    push(out, &[Words(company.letter())])?;
-                    free = free.saturating_sub(1);
-                }
-            }
-            for _ in 0..free {
-                fill(out, "-", &[])?;
-            }
+            put_slots(out, history, city, slots);
         }
     }
-    Ok(())
+}
+
+/// Adds the tokens in a city with this many slots, and a mark for each slot that is free.
+fn put_slots(out: &mut Text, history: &History, city: Stop, slots: u8) {
+    let mut free = slots;
+    for company in &Company::ALL {
+        if has_token(history, city, *company) {
+            out.push(&[Words(company.letter())]);
+            free = free.saturating_sub(1);
+        }
+    }
+    for _ in 0..free {
+        out.push(&[Words("-")]);
+    }
 }

@@ -1,25 +1,19 @@
-//! The state of a game, as text or as JSON.
-//!
-//! Its facts come from the readers of the game's list, or from `purse`, `earnings`, `stack` and
-//! `stock_left`, whose contracts define them. The rest is layout.
-ghost use Rattle.std.specs.Prelude.{IfErr, IfOk, None, OnOk, Some};
-ghost use Rattle.desk_base.specs.Played.{IsMomentFault, IsPlayedIn, IsRoundFault, ShowsNone};
+//! The state of a game, as text or as JSON: the rows of its tables, in the columns of the form.
+ghost use Rattle.std.specs.Prelude.{IfErr, OnOk};
+ghost use Rattle.desk_base.specs.Played.{IsMomentFault};
 ghost use Rattle.sheets.specs.File.{IsAccepted};
 
 use crate::facts::json_line;
-use crate::stack::all_in_order;
-use crate::state_chart::push_chart;
-use crate::state_companies::push_companies;
+use crate::state_chart::put_chart;
 use crate::state_facts::StateFacts;
-use crate::state_map::push_map;
-use crate::state_players::{push_owners, push_players};
-use crate::state_round::{push_awaited, push_matters};
-use crate::state_stock::{push_laid, push_tiles_left, push_trains};
-use desk_base::{DeskFault, Moment, Stood, play_before, play_behind, stood_at_last, stood_now};
-use rounds::{Play, play};
+use crate::state_map::put_map;
+use crate::state_round::{put_awaited, put_matters};
+use crate::state_tables::{COMPANIES, OWNERS, PLAYERS, TOKENS, TRAINS, put_shares};
+use crate::state_tiles::{put_laid, put_tiles_left};
+use desk_base::{DeskFault, Moment, Stood, Text, position_at};
+use desk_cells::{all_in_order, company_rows, player_rows, private_rows, train_rows};
 use sheets::{Sheets, collect};
 use std::alloc::{AllocError, Global};
-use tables::{Company, Round};
 
 /// The form in which a state is written.
 #[derive(Clone, Copy)]
@@ -34,8 +28,8 @@ pub enum StateForm {
 /// or how the game ended; then come the phase, priority, the number of operating rounds of the set
 /// and the limit of certificates; players, privates, companies in operating order, trains and
 /// tiles; the stock market and the map. Lines have at most 80 columns, except that of a company
-/// with over three privates. JSON has the same figures, without the pictures of the market and the
-/// map.
+/// with more than three privates. JSON has the same figures, without the pictures of the market and
+/// the map.
 ///
 /// Fails with `File` if the file is refused, with `Round` if the moment names a round that was not
 /// played, or is `BeforeLast` and no round was, and with `Memory` if allocation fails.
@@ -54,7 +48,6 @@ pub fn state(
 }
 
 /// Returns the state of the game of some sheets at a moment.
-#[tactic(auto, using(desk_base::proofs::PlayedLemmas::no_moment_behind, desk_base::proofs::PlayedLemmas::no_moment_before, desk_base::proofs::PlayedLemmas::no_moment_before_any, desk_base::proofs::PlayedLemmas::no_moment_before_last))]
 fn state_at(
     alloc: Global,
     sheets: &Sheets,
@@ -63,106 +56,46 @@ fn state_at(
 ) -> Result<Vec<u8>, DeskFault>
     ensures { IfErr result (IsMomentFault sheets.now moment) }
 {
-    match moment {
-        Moment::Last => Ok(state_at_last(alloc, sheets, form)?),
-        Moment::After(round) => text_behind(alloc, sheets, round, form),
-        Moment::Before(round) => text_before(alloc, sheets, round, form),
-        Moment::BeforeLast => {
-            // A law, which does nothing when it runs.
-            rounds::laws::one_game();
-            let last = last_round(alloc, sheets)?;
-            text_before(alloc, sheets, last, form)
-        }
-    }
-}
-
-/// Returns the state of the game of some sheets after a round.
-#[tactic(auto, using(desk_base::proofs::PlayedLemmas::shows_behind))]
-fn text_behind(
-    alloc: Global,
-    sheets: &Sheets,
-    round: Round,
-    form: StateForm,
-) -> Result<Vec<u8>, DeskFault>
-    ensures { IfErr result (IsRoundFault sheets.now (Some round)) }
-{
-    let play = play_behind(alloc, sheets, round)?;
-    text_of_play(alloc, &play, form)
-}
-
-/// Returns the state of the game of some sheets before a round.
-#[tactic(auto, using(desk_base::proofs::PlayedLemmas::shows_before))]
-fn text_before(
-    alloc: Global,
-    sheets: &Sheets,
-    round: Round,
-    form: StateForm,
-) -> Result<Vec<u8>, DeskFault>
-    ensures { IfErr result (IsRoundFault sheets.now (Some round)) }
-{
-    let play = play_before(alloc, sheets, round)?;
-    text_of_play(alloc, &play, form)
-}
-
-/// Returns the state of the game of some sheets after the last round.
-fn state_at_last(alloc: Global, sheets: &Sheets, form: StateForm) -> Result<Vec<u8>, AllocError> {
-    let game = play(alloc, sheets)?;
-    state_text(alloc, &stood_at_last(&game), form)
-}
-
-/// Returns the state of a game that was played up to here.
-fn text_of_play(alloc: Global, play: &Play, form: StateForm) -> Result<Vec<u8>, DeskFault>
-    ensures { IfErr result (ShowsNone play.now) }
-{
-    match stood_now(play) {
-        Some(stood) => Ok(state_text(alloc, &stood, form)?),
-        None => Err(DeskFault::Round),
-    }
-}
-
-/// Returns the last round that some sheets play. Fails with `Round` if they play none.
-#[tactic(auto, using(desk_base::proofs::PlayedLemmas::last_was_played, desk_base::proofs::PlayedLemmas::none_was_played))]
-fn last_round(alloc: Global, sheets: &Sheets) -> Result<Round, DeskFault>
-    ensures played { IfOk result (λ round. IsPlayedIn sheets.now round) }
-    ensures fault { IfErr result (IsRoundFault sheets.now None) }
-{
-    let game = play(alloc, sheets)?;
-    match game.history().now().round() {
-        Some(round) => Ok(round),
-        None => Err(DeskFault::Round),
-    }
+    let position = position_at(alloc, sheets, moment)?;
+    Ok(state_text(alloc, &position.stood(), form)?)
 }
 
 /// Returns the state of a game at a moment, in a form. Fails only if allocation fails.
 pub fn state_text(alloc: Global, stood: &Stood, form: StateForm) -> Result<Vec<u8>, AllocError> {
-    let order = all_in_order(alloc, stood.history)?;
+    let (history, view) = (stood.history, stood.history.now());
+    let order = all_in_order(alloc, history)?;
+    let players = player_rows(alloc, history, &view, stood.sheets.seats())?;
+    let privates = private_rows(alloc, &view)?;
+    let companies = company_rows(alloc, &view, &view, order.as_slice())?;
+    let trains = train_rows(alloc, &view)?;
+    let facts = StateFacts {
+        alloc,
+        stood,
+        players: players.as_slice(),
+        privates: privates.as_slice(),
+        companies: companies.as_slice(),
+        trains: trains.as_slice(),
+    };
     match form {
-        StateForm::Text => {
-            let mut text = Vec::new(alloc);
-            push_state(&mut text, stood, order.as_slice())?;
-            Ok(text)
-        }
-        StateForm::Json => {
-            let facts = StateFacts {
-                alloc,
-                stood,
-                order: order.as_slice(),
-            };
-            json_line(alloc, &facts)
-        }
+        StateForm::Text => text_of(alloc, &facts),
+        StateForm::Json => json_line(alloc, &facts),
     }
 }
 
-/// Adds the state of a game, with its companies in this order.
-fn push_state(out: &mut Vec<u8>, stood: &Stood, order: &[Company]) -> Result<(), AllocError> {
-    push_awaited(out, stood)?;
-    push_matters(out, stood)?;
-    push_players(out, stood)?;
-    push_owners(out, stood)?;
-    push_companies(out, stood, order)?;
-    push_trains(out, stood.history)?;
-    push_laid(out, stood.history)?;
-    push_tiles_left(out, stood.history)?;
-    push_chart(out, stood.history)?;
-    push_map(out, stood.history)
+/// Returns the state of a game as text.
+fn text_of(alloc: Global, state: &StateFacts) -> Result<Vec<u8>, AllocError> {
+    let (stood, mut text) = (state.stood, Text::new(alloc));
+    put_awaited(&mut text, stood);
+    put_matters(&mut text, stood);
+    PLAYERS.put(&mut text, stood, state.players);
+    OWNERS.put(&mut text, stood, state.privates);
+    COMPANIES.put(&mut text, stood, state.companies);
+    put_shares(&mut text, stood, state.companies);
+    TOKENS.put(&mut text, stood, state.companies);
+    TRAINS.put(&mut text, stood, state.trains);
+    put_laid(&mut text, stood.history);
+    put_tiles_left(&mut text, stood.history);
+    put_chart(&mut text, stood.history);
+    put_map(&mut text, stood.history);
+    text.finish()
 }

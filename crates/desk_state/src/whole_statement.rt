@@ -1,29 +1,31 @@
 //! The statement that ends a bulletin: what everybody has after a round, and what comes next.
 //!
-//! Its figures come from the rows of a state, and the ranks of the result from `standing`. The rest
-//! is layout.
+//! Its tables are rows and cells of `desk_cells`. The rest is layout.
 ghost use Rattle.std.specs.Prelude.{◌≡◌, ◌++◌, IfOk, OnOk};
-ghost use Rattle.desk_state.specs.Statement.{before_round, started_in, started_one};
+ghost use Rattle.desk_state.specs.Statement.{started_in, started_one};
 
-use crate::stack::all_in_order;
-use crate::state_companies::{push_all_shares, push_all_tokens};
-use crate::state_players::push_owners;
-use crate::state_round::push_matters;
-use crate::state_rows::train_row;
-use crate::state_stock::push_laid;
-use crate::statement_next::push_next;
-use crate::statement_parties::{push_companies_moved, push_players_moved};
+use crate::state_round::put_matters;
+use crate::state_tables::{COMPANIES_MOVED, OWNERS, PLAYERS_MOVED, TOKENS, put_shares};
+use crate::state_tiles::put_laid;
+use crate::statement_next::{put_next, words_or};
 use desk_base::Piece::{Column, Count, Number, Words};
-use desk_base::{Piece, Stood, fill, push, push_wrapped, push_wrapped_lines, view_behind};
+use desk_base::{Piece, Stood, Text, view_behind};
+use desk_cells::{
+    TableRow, TrainRow, all_in_order, before_round, company_rows, game_row, player_rows,
+    private_rows, train_row,
+};
 use desk_dues::next_train_text;
-use history::{Event, History, Party, Walk};
+use history::{GameView, History, Holder, Party, Walk};
 use purchases::sells;
 use rounds::End;
 use std::alloc::{AllocError, Global};
-use tables::{Amount, Company, Kind, Money, Round};
+use tables::{Company, Kind, Money, Private, Round};
 
 /// The column of the values of the head.
 pub(crate) const VALUES: usize = 18;
+
+/// The column of a company's trains and privates.
+const BELONGINGS: usize = 56;
 
 /// Returns the statement of a game at a moment between two rounds, in lines of at most 80 columns.
 /// It shows what each player and each started company has, beside what they had before the last
@@ -31,42 +33,94 @@ pub(crate) const VALUES: usize = 18;
 /// (`due`, unless that is empty); and the result once the game is over. Fails only if allocation
 /// fails.
 pub fn statement(alloc: Global, stood: &Stood, due: &str) -> Result<Vec<u8>, AllocError> {
-    let order = all_in_order(alloc, stood.history)?;
-    let mut text = Vec::new(alloc);
-    push_statement(alloc, &mut text, stood, order.as_slice(), due)?;
-    Ok(text)
-}
-
-/// Adds the statement of a game, with its companies in this order.
-fn push_statement(
-    alloc: Global,
-    out: &mut Vec<u8>,
-    stood: &Stood,
-    order: &[Company],
-    due: &str,
-) -> Result<(), AllocError> {
-    let events = stood.history.events();
+    let (history, mut text) = (stood.history, Text::new(alloc));
+    let events = history.events();
     let mut walk = Walk::along(events);
-    let before = view_behind(&mut walk, before_round(events), stood.history.seats());
-    push_head(alloc, out, stood)?;
-    push_players_moved(out, stood, &before)?;
-    if stood.history.now().cheapest_unsold().is_some() {
-        push_owners(out, stood)?;
-    }
-    let started = started_in(alloc, stood.history, order)?;
-    push_companies_moved(alloc, out, stood, &before, started.as_slice())?;
-    push_all_shares(out, stood, order)?;
-    if !started.is_empty() {
-        push_all_tokens(out, stood.history, started.as_slice())?;
-    }
-    if !stood.history.lays().is_empty() {
-        push_laid(out, stood.history)?;
+    let before = view_behind(&mut walk, before_round(events), history.seats());
+    let order = all_in_order(alloc, history)?;
+    put_head(alloc, &mut text, stood)?;
+    put_parties(alloc, &mut text, stood, &before, order.as_slice())?;
+    if !history.lays().is_empty() {
+        put_laid(&mut text, history);
     }
     if let End::Awaiting(Round::Stock(_) | Round::Operating { .. }) = stood.end {
-        let next_train = next_train_text(alloc, stood.sheets, stood.history)?;
-        push_wrapped_lines(out, 0, next_train.as_slice())?;
+        let next_train = next_train_text(alloc, stood.sheets, history)?;
+        text.push_wrapped_lines(0, next_train.as_slice());
     }
-    push_next(alloc, out, stood, order, due)
+    put_next(alloc, &mut text, stood, order.as_slice(), due)?;
+    text.finish()
+}
+
+/// Adds what each player and each started company has, beside what they had before the last round;
+/// and while a private is unsold, who owns each.
+fn put_parties(
+    alloc: Global,
+    out: &mut Text,
+    stood: &Stood,
+    before: &GameView,
+    order: &[Company],
+) -> Result<(), AllocError> {
+    let view = stood.history.now();
+    let players = player_rows(alloc, stood.history, before, stood.sheets.seats())?;
+    PLAYERS_MOVED.put(out, stood, players.as_slice());
+    if view.cheapest_unsold().is_some() {
+        OWNERS.put(out, stood, private_rows(alloc, &view)?.as_slice());
+    }
+    let started = started_in(alloc, stood.history, order)?;
+    let started = company_rows(alloc, &view, before, started.as_slice())?;
+    put_companies(alloc, out, stood, started.as_slice())?;
+    let all = company_rows(alloc, &view, before, order)?;
+    put_shares(out, stood, all.as_slice());
+    if !started.is_empty() {
+        TOKENS.put(out, stood, started.as_slice());
+    }
+    Ok(())
+}
+
+/// Adds what some companies have, in this order: their figures, their trains with the limit, and
+/// their privates. Adds nothing if there are no companies.
+fn put_companies(
+    alloc: Global,
+    out: &mut Text,
+    stood: &Stood,
+    rows: &[TableRow],
+) -> Result<(), AllocError> {
+    if rows.is_empty() {
+        return Ok(());
+    }
+    COMPANIES_MOVED.put_heading(out);
+    for row in rows {
+        COMPANIES_MOVED.put_cells(out, stood, row);
+        let belongings = belongings_of(alloc, stood.history, row)?;
+        out.push(&[Column(BELONGINGS)]);
+        out.push_wrapped(BELONGINGS, belongings.as_slice());
+    }
+    Ok(())
+}
+
+/// Returns a company's trains, how many it may have, and its privates, as words.
+fn belongings_of(alloc: Global, history: &History, row: &TableRow) -> Result<Vec<u8>, AllocError> {
+    let (view, mut text) = (history.now(), Text::new(alloc));
+    match row {
+        TableRow::OfCompany(row) if row.operates => {
+            if view.train_count(Some(row.company)) == 0 {
+                text.push(&[Words("none ")]);
+            }
+            for kind in &Kind::ALL {
+                for _ in 0..history.trains(Some(row.company), *kind) {
+                    text.push(&[Words(kind.code()), Words(" ")]);
+                }
+            }
+            text.fill("(may have %)", &[Count(game_row(&view).trains)]);
+            for private in &Private::ALL {
+                if history.owner(*private) == Some(Holder::Company(row.company)) {
+                    text.push(&[Words(" "), Words(private.code())]);
+                }
+            }
+        }
+        _ => text.push(&[Words("not floated")]),
+    }
+    text.finish()
 }
 
 /// Returns those of some companies that have started, in their order.
@@ -100,72 +154,53 @@ fn push_started(
     Ok(())
 }
 
-/// Returns the number of events before the round that began last; 0 if none began.
-fn before_round(events: &[Event]) -> usize
-    ensures { result ≡ before_round events.now }
-{
-    let mut before = 0;
-    for (place, event) in events.iter().enumerate() {
-        if event.round().is_some() {
-            before = place;
-        }
-    }
-    before
-}
-
 /// Adds the round, the phase with its limits, and the bank's cash.
-fn push_head(alloc: Global, out: &mut Vec<u8>, stood: &Stood) -> Result<(), AllocError> {
+fn put_head(alloc: Global, out: &mut Text, stood: &Stood) -> Result<(), AllocError> {
     let round = match stood.history.now().round() {
         Some(round) => Piece::Round(round),
         None => Words("no round"),
     };
-    fill(out, "\nAFTER %\n", &[round])?;
-    push_matters(out, stood)?;
-    fill(
-        out,
+    out.fill("\nAFTER %\n", &[round]);
+    put_matters(out, stood);
+    out.fill(
         "BANK              %\n",
         &[Number(stood.history.cash(Party::Bank))],
-    )?;
-    let (mut bank, mut pool) = (Vec::new(alloc), Vec::new(alloc));
+    );
+    let (mut bank, mut pool) = (Text::new(alloc), Text::new(alloc));
     for kind in &Kind::ALL {
-        push_sold(&mut bank, &mut pool, stood.history, *kind)?;
+        put_sold(&mut bank, &mut pool, stood.history, *kind);
     }
-    push_trains(out, "TRAINS ON SALE", bank.as_slice())?;
-    push_trains(out, "TRAINS IN POOL", pool.as_slice())
+    put_trains(out, "TRAINS ON SALE", bank.finish()?.as_slice());
+    put_trains(out, "TRAINS IN POOL", pool.finish()?.as_slice());
+    Ok(())
 }
 
 /// Adds a kind of train with its price and the number left: to the list of those that the bank
 /// sells, and to the list of those in the pool.
-fn push_sold(
-    bank: &mut Vec<u8>,
-    pool: &mut Vec<u8>,
-    history: &History,
-    kind: Kind,
-) -> Result<(), AllocError> {
+fn put_sold(bank: &mut Text, pool: &mut Text, history: &History, kind: Kind) {
     let view = history.now();
     let row = train_row(&view, kind);
     if sells(&view, kind) {
-        push_priced(bank, kind, row.price)?;
+        put_priced(bank, &row);
         if let Some(left) = row.left {
-            fill(bank, " (% left)", &[Count(left)])?;
+            bank.fill(" (% left)", &[Count(left)]);
         }
     }
     if row.pool > 0 {
-        push_priced(pool, kind, row.price)?;
-        fill(pool, " (% there)", &[Number(Money::from(row.pool))])?;
+        put_priced(pool, &row);
+        pool.fill(" (% there)", &[Number(Money::from(row.pool))]);
     }
-    Ok(())
 }
 
 /// Adds a kind of train with its price to a list.
-fn push_priced(list: &mut Vec<u8>, kind: Kind, price: Amount) -> Result<(), AllocError> {
-    let comma = if list.is_empty() { "" } else { ", " };
-    let price = Number(Money::from(price));
-    fill(list, "%% for %", &[Words(comma), Words(kind.code()), price])
+fn put_priced(list: &mut Text, row: &TrainRow) {
+    let comma = if list.bytes().is_empty() { "" } else { ", " };
+    let price = Number(Money::from(row.price));
+    list.fill("%% for %", &[Words(comma), Words(row.kind.code()), price]);
 }
 
 /// Adds a list of trains after its name; `none` if it is empty.
-fn push_trains(out: &mut Vec<u8>, name: &str, list: &[u8]) -> Result<(), AllocError> {
-    push(out, &[Words(name), Column(VALUES)])?;
-    push_wrapped(out, VALUES, if list.is_empty() { b"none" } else { list })
+fn put_trains(out: &mut Text, name: &str, list: &[u8]) {
+    out.push(&[Words(name), Column(VALUES)]);
+    out.push_wrapped(VALUES, words_or(list, b"none"));
 }

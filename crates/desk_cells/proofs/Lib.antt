@@ -1,0 +1,3 @@
+-- What the proofs of the rows share.
+mod LeaderLemmas
+pub mod Stacks

@@ -1,3 +1,0 @@
--- What the proofs of a state share.
-pub mod Orders
-pub mod Stacks
