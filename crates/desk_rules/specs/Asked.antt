@@ -1,13 +1,18 @@
 -- All rules of its kind that an order breaks at a moment of a game: the rows of the tables of each kind that are true. Not
 -- asked are rules of steps, which depend on the lines above in the same sheet, and a row that has no meaning unless another
 -- one is kept.
-use Rattle.std.specs.Prelude.{ℕ, Bool, true, false, not, List, [], Option, Some, None}
+use Rattle.std.specs.Prelude.{ℕ, Bool, true, false, not, List, [], ◌∷◌, None}
 use Rattle.certs.specs.Purchase.{is_no_par, share_purchase_rules}
 use Rattle.certs.specs.Sale.{is_not_held, sale_rules}
 use Rattle.certs.specs.declared.share_deal.Purchase.{Purchase}
 use Rattle.certs.specs.declared.share_deal.Purchase.TheVariants as purchase
 use Rattle.certs.specs.declared.share_deal.Sale.{Sale}
-use Rattle.desk_rules.specs.Broken.{broken_of}
+use Rattle.desk_map_rules.specs.Broken.{broken_of}
+use Rattle.desk_map_rules.specs.RunAsked.{best_broken, pay_broken}
+use Rattle.desk_rules.specs.OpeningAsked.{before_turns_broken, opening_broken}
+use Rattle.desk_rules.specs.StandingAsked.{before_companies_broken}
+use Rattle.desk_rules.specs.declared.site.Site.{Site}
+use Rattle.desk_rules.specs.declared.site.Site.TheVariants as site
 use Rattle.events.specs.declared.event.Event.{Event}
 use Rattle.events.specs.declared.ruling.PrivateRule.{PrivateRule}
 use Rattle.events.specs.declared.ruling.PrivateRule.TheVariants as of_private
@@ -76,22 +81,27 @@ abbrev pub private_broken : Game → Company → Private → ℕ → List Refusa
 private_broken game company private price =
     broken_of (is_asked_of_private private) refusal.Private (private_rules game company private price)
 
--- the rules that an order of a seat in a turn of a stock round breaks; none of another order
+-- the rules that an order of a seat in a turn of a stock round breaks: an order that has no place there breaks that one
 abbrev pub seat_broken : Game → Seat → PlayOrder → List Refusal
 seat_broken game seat (play.Par company price) = purchase_broken game seat (purchase.Par company price)
 seat_broken game seat (play.BuyShare company from) = purchase_broken game seat (purchase.Share company from)
 seat_broken game seat (play.Sell company shares) =
     sale_broken game seat (record { company = company; shares = shares })
 seat_broken game seat play.ExchangeMohawk = exchange_broken game.events seat
-seat_broken game seat other = []
+seat_broken game seat other = refusal.Stock of_stock.NotOfStock ∷ []
 
 -- the rules that an order for a company breaks; none of another order
 abbrev pub company_broken : Game → Company → PlayOrder → List Refusal
 company_broken game company (play.BuyTrain kind from) = train_broken game company (purchase_of kind from)
 company_broken game company (play.BuyOwnedPrivate private price) = private_broken game company private price
+company_broken game company play.RunBest = best_broken game.events company
+company_broken game company play.Pay = pay_broken game.events company
 company_broken game company other = []
 
--- the rules of its kind that an order of a seat breaks, among the orders for this company if there is one
-abbrev pub broken_rules : Game → Seat → Option Company → PlayOrder → List Refusal
-broken_rules game seat None order = seat_broken game seat order
-broken_rules game seat (Some company) order = company_broken game company order
+-- the rules of its kind that an order of play of a seat breaks, by where it stands
+abbrev pub broken_rules : Game → Seat → Site → PlayOrder → List Refusal
+broken_rules game seat site.BeforeTurns order = before_turns_broken game.events order
+broken_rules game seat site.OpeningTurn order = opening_broken game seat order
+broken_rules game seat site.StockTurn order = seat_broken game seat order
+broken_rules game seat site.BeforeCompanies order = before_companies_broken game.events seat order
+broken_rules game seat (site.Orders company) order = company_broken game company order

@@ -1,7 +1,4 @@
--- Which rules of its kind an order breaks, and which of them others can mend.
+-- Which rules of its kind an order breaks, but for those of the map.
 pub mod Asked
-pub mod Broken
-pub mod CompanyStays
-pub mod Mending
-pub mod Stays
-pub mod Written
+pub mod OpeningAsked
+pub mod StandingAsked

@@ -1,33 +1,42 @@
 //! All rules of its kind that an order breaks.
-ghost use Rattle.std.specs.Prelude.{◌≡◌, IfOk};
+ghost use Rattle.std.specs.Prelude.{◌≡◌, ◌∷◌, [], IfOk};
 ghost use Rattle.desk_rules.specs.Asked.{broken_rules, company_broken, seat_broken};
+ghost use Rattle.events.specs.declared.ruling.Refusal.TheVariants as refusal;
+ghost use Rattle.events.specs.declared.ruling.StockRule.TheVariants as of_stock;
 
+use crate::opening_rules::{before_turns_broken, opening_broken};
 use crate::private_rules::private_broken;
 use crate::purchase_rules::purchase_broken;
 use crate::sale_rules::{exchange_broken, sale_broken};
+use crate::site::Site;
+use crate::standing_rules::before_companies_broken;
 use crate::train_rules::{purchase_of, train_broken};
 use certs::{Purchase, Sale};
-use history::{GameView, Refusal};
+use desk_map_rules::{best_broken, pay_broken};
+use history::{GameView, Refusal, StockRule};
 use order_grammar::PlayOrder;
 use std::alloc::{AllocError, Global};
 use tables::{Company, Seat};
 
-/// Returns all rules of its kind that an order of a seat breaks, given the game before it, in the
-/// order in which the umpire asks them. The order is among those for this company, if there is one.
-/// Kinds of which only the first rule is told have none, and rules of steps are not asked. Fails
-/// only if allocation fails.
+/// Returns all rules of its kind that an order of a seat breaks, given the game before it and where
+/// the order stands, in the order in which the umpire asks them. Kinds of which only the first rule
+/// is told have none, and rules of steps are not asked. Those of the map are asked by
+/// `broken_on_map` of `desk_map_rules`. Fails only if allocation fails.
 pub fn broken_rules(
     alloc: Global,
     view: &GameView,
     seat: Seat,
-    company: Option<Company>,
+    site: Site,
     order: PlayOrder,
 ) -> Result<Vec<Refusal>, AllocError>
-    ensures { IfOk result (λ rules. rules.items ≡ broken_rules view.now seat company order) }
+    ensures { IfOk result (λ rules. rules.items ≡ broken_rules view.now seat site order) }
 {
-    match company {
-        Some(company) => company_broken(alloc, view, company, order),
-        None => seat_broken(alloc, view, seat, order),
+    match site {
+        Site::BeforeTurns => before_turns_broken(alloc, view, order),
+        Site::OpeningTurn => opening_broken(alloc, view, seat, order),
+        Site::StockTurn => seat_broken(alloc, view, seat, order),
+        Site::BeforeCompanies => before_companies_broken(alloc, view, seat, order),
+        Site::Orders(company) => company_broken(alloc, view, company, order),
     }
 }
 
@@ -51,7 +60,7 @@ fn seat_broken(
             sale_broken(alloc, view, seat, Sale { company, shares })
         }
         PlayOrder::ExchangeMohawk => exchange_broken(alloc, view, seat),
-        _ => Ok(Vec::new(alloc)),
+        _ => not_of_stock(alloc),
     }
 }
 
@@ -71,6 +80,18 @@ fn company_broken(
         PlayOrder::BuyOwnedPrivate { private, price } => {
             private_broken(alloc, view, company, private, price)
         }
+        PlayOrder::RunBest => best_broken(alloc, view, company),
+        PlayOrder::Pay => pay_broken(alloc, view, company),
         _ => Ok(Vec::new(alloc)),
     }
+}
+
+/// Returns the rule that an order breaks which has no place in a turn of a stock round.
+fn not_of_stock(alloc: Global) -> Result<Vec<Refusal>, AllocError>
+    ensures { IfOk result (λ rules. rules.items
+        ≡ refusal.Stock of_stock.NotOfStock ∷ []) }
+{
+    let mut rules = Vec::new(alloc);
+    rules.push(Refusal::Stock(StockRule::NotOfStock))?;
+    Ok(rules)
 }

@@ -5,7 +5,7 @@ ghost use Rattle.events.specs.declared.ruling.Refusal.TheVariants as refusal;
 ghost use Rattle.purchases.specs.Private.{is_given, is_too_early, is_wrong_price, owner_agrees};
 ghost use Rattle.purchases.specs.Private.{private_costs_too_much};
 
-use crate::row::{Row, rules_of};
+use desk_map_rules::{Row, rules_of};
 use history::{GameView, Holder, Party, PrivateRule, Refusal};
 use order_grammar::Offer;
 use std::alloc::{AllocError, Global};
@@ -32,7 +32,7 @@ pub(crate) fn private_broken(
         of_private(PrivateRule::NeverSold, is_bop),
         of_private(
             PrivateRule::CashTooSmall,
-            costs_too_much(view, company, price),
+            private_costs_too_much(view, company, price),
         ),
     ];
     rules_of(alloc, &rows)
@@ -48,8 +48,8 @@ fn of_private(rule: PrivateRule, is_broken: bool) -> Row
     }
 }
 
-/// Returns whether a company has less cash than a price.
-pub(crate) fn costs_too_much(view: &GameView, company: Company, price: Amount) -> bool
+/// Returns whether a company has less cash than a price, in dollars.
+pub fn private_costs_too_much(view: &GameView, company: Company, price: Amount) -> bool
     ensures { result ≡ private_costs_too_much view.now company price }
 {
     view.cash(Party::of_company(company)) < Money::from(price)
@@ -62,7 +62,7 @@ fn is_too_early(view: &GameView) -> bool
     view.phase().index() < Kind::Three.index()
 }
 
-/// Returns whether a price is under half of the face value, or over twice that.
+/// Returns whether a price is less than half of the face value, or more than twice that.
 fn is_wrong_price(private: Private, price: Amount) -> bool
     ensures { result ≡ is_wrong_price private price }
 {

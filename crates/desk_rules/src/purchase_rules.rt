@@ -6,8 +6,8 @@ ghost use Rattle.certs.specs.Counted.{counts_on};
 ghost use Rattle.desk_rules.specs.Asked.{purchase_broken};
 ghost use Rattle.events.specs.declared.ruling.Refusal.TheVariants as refusal;
 
-use crate::row::{Row, rules_of};
 use certs::{Purchase, counted_now, is_over_six, purchase_cost};
+use desk_map_rules::{Row, rules_of};
 use history::{GameView, Refusal, ShareCount, Shareholder, StockRule};
 use std::alloc::{AllocError, Global};
 use tables::{Company, Seat, Square, Zone, certificate_limit, par_square, zone};
@@ -59,7 +59,7 @@ pub(crate) fn of_stock(rule: StockRule, is_broken: bool) -> Row
 
 /// Returns whether no share is left where one is to be bought.
 #[tactic(auto, unfolding(certs::specs::Purchase::is_sold_out_there))]
-pub(crate) fn is_sold_out_there(view: &GameView, purchase: Purchase) -> bool
+pub fn is_sold_out_there(view: &GameView, purchase: Purchase) -> bool
     ensures { result ≡ is_sold_out_there view.now.events purchase }
 {
     match purchase {
@@ -82,7 +82,7 @@ fn is_no_par(purchase: Purchase) -> bool
 
 /// Returns whether the purchase starts a company that has started, or buys a share of one that has
 /// not.
-pub(crate) fn is_wrong_start(view: &GameView, purchase: Purchase) -> bool
+pub fn is_wrong_start(view: &GameView, purchase: Purchase) -> bool
     ensures { result ≡ is_wrong_start view.now.events purchase }
 {
     match purchase {
@@ -93,7 +93,7 @@ pub(crate) fn is_wrong_start(view: &GameView, purchase: Purchase) -> bool
 
 /// Returns whether a purchase costs more than a seat's cash minus its bids.
 #[tactic(auto, unfolding(certs::specs::Purchase::is_short_of_cash))]
-pub(crate) fn is_short(view: &GameView, seat: Seat, purchase: Purchase) -> bool
+pub fn is_short(view: &GameView, seat: Seat, purchase: Purchase) -> bool
     ensures { result ≡ is_short_of_cash view.now.seats view.now.events seat
         (cost_of view.now.events purchase) }
 {

@@ -7,8 +7,8 @@ ghost use Rattle.totals.specs.LookBack.{is_owner, owner_of, round_of};
 ghost use Rattle.tables.specs.declared.roster.Private.TheVariants.{MohawkHudson};
 
 use crate::purchase_rules::of_stock;
-use crate::row::rules_of;
 use certs::{Sale, is_over_six, none_is_left};
+use desk_map_rules::rules_of;
 use history::{GameView, Holder, Refusal, ShareCount, Shareholder, StockRule};
 use std::alloc::{AllocError, Global};
 use tables::{Company, POOL_SHARES_MOST, Private, Round, Seat};
@@ -40,7 +40,7 @@ pub(crate) fn sale_broken(
 }
 
 /// Returns whether the round is the first stock round.
-pub(crate) fn is_first_stock(view: &GameView) -> bool
+pub fn is_first_stock(view: &GameView) -> bool
     ensures { result ≡ is_first_stock (round_of view.now.events) }
 {
     matches!(view.round(), Some(Round::Stock(1)))
@@ -55,7 +55,7 @@ pub(crate) fn is_not_held(view: &GameView, seat: Seat, sale: Sale) -> bool
         || view.shares(sale.company, Shareholder::Seat(seat)) < ShareCount::from(sale.shares)
 }
 
-/// Returns whether the bank pool would hold over five shares of the company.
+/// Returns whether the bank pool would hold more than five shares of the company.
 #[tactic(auto, unfolding(certs::specs::Sale::is_over_five))]
 fn is_over_five(view: &GameView, sale: Sale) -> bool
     ensures { result ≡ is_over_five view.now.events sale }
@@ -88,7 +88,7 @@ pub(crate) fn exchange_broken(
 }
 
 /// Returns whether a seat may not exchange MH: it does not own MH, no share of NYC is left, or it
-/// would hold over six.
+/// would hold more than six.
 fn is_no_exchange(view: &GameView, seat: Seat) -> bool
     ensures { result ≡ is_no_exchange view.now.events seat }
 {
@@ -99,7 +99,7 @@ fn is_no_exchange(view: &GameView, seat: Seat) -> bool
 }
 
 /// Returns whether a seat owns MH.
-pub(crate) fn owns_mohawk(view: &GameView, seat: Seat) -> bool
+pub fn owns_mohawk(view: &GameView, seat: Seat) -> bool
     ensures { result ≡ is_owner seat (owner_of view.now.events MohawkHudson) }
 {
     match view.owner(Private::MohawkHudson) {

@@ -6,7 +6,7 @@ ghost use Rattle.purchases.specs.Train.{is_at_train_limit, is_no_trade_in, is_no
 ghost use Rattle.purchases.specs.Train.{lacks_consent, may_trade, presidents_agree, price_of_train, purchase_of};
 ghost use Rattle.purchases.specs.Train.{traded_count, train_costs_too_much, train_purchase_cost};
 
-use crate::row::{Row, rules_of};
+use desk_map_rules::{Row, rules_of};
 use history::{GameView, Party, Refusal, TrainRule, TrainSeller};
 use order_grammar::{Offer, TrainSource};
 use purchases::{TrainPurchase, has_train, may_be_traded, sells};
@@ -31,7 +31,7 @@ pub(crate) fn train_broken(
         of_train(TrainRule::TrainLimit, is_full(view, company, trade_in)),
         of_train(
             TrainRule::CashTooSmall,
-            costs_too_much(view, company, purchase),
+            train_costs_too_much(view, company, purchase),
         ),
         of_train(TrainRule::NoConsent, lacks_consent),
         of_train(TrainRule::NotSellers, is_not_sellers),
@@ -54,7 +54,7 @@ fn of_train(rule: TrainRule, is_broken: bool) -> Row
 }
 
 /// Returns the purchase that a TRAIN line orders.
-pub(crate) fn purchase_of(kind: Kind, from: TrainSource) -> TrainPurchase
+pub fn purchase_of(kind: Kind, from: TrainSource) -> TrainPurchase
     ensures { result ≡ purchase_of kind from }
 {
     let (from, trade_in, asked) = match from {
@@ -101,8 +101,8 @@ fn traded_trains(trade_in: Option<Kind>) -> Money
     }
 }
 
-/// Returns how many trains are traded in.
-pub(crate) fn traded_count(trade_in: Option<Kind>) -> usize
+/// Returns how many trains are traded in: 0 or 1.
+pub fn traded_count(trade_in: Option<Kind>) -> usize
     ensures traded { result ≡ traded_count trade_in }
     ensures few { result ≤ 1 }
 {
@@ -113,7 +113,7 @@ pub(crate) fn traded_count(trade_in: Option<Kind>) -> usize
 }
 
 /// Returns what a train costs, in dollars.
-pub(crate) fn cost_of_train(purchase: TrainPurchase) -> Amount
+pub fn cost_of_train(purchase: TrainPurchase) -> Amount
     ensures { result ≡ train_purchase_cost purchase }
 {
     match purchase.asked {
@@ -136,7 +136,7 @@ fn price_of_train(kind: Kind, trade_in: Option<Kind>) -> Amount
 }
 
 /// Returns whether a train costs more than the company has.
-pub(crate) fn costs_too_much(view: &GameView, company: Company, purchase: TrainPurchase) -> bool
+pub fn train_costs_too_much(view: &GameView, company: Company, purchase: TrainPurchase) -> bool
     ensures { result ≡ train_costs_too_much view.now company purchase }
 {
     view.cash(Party::of_company(company)) < Money::from(cost_of_train(purchase))
