@@ -104,9 +104,15 @@ abbrev pub said_of_wrong : Option (Refusal × Objection) → Option Said
 said_of_wrong None = None
 said_of_wrong (Some wrong) = Some (Breaks wrong.0 wrong.1)
 
+-- why an order is wrong by the orders before it: those of a company's turn have steps, and those of other turns have none
+abbrev pub wrong_by_steps : Round → Block → Order → Option (Refusal × Objection)
+wrong_by_steps (Operating set number) block its = objection_behind block its
+wrong_by_steps other block its = None
+
 -- why an order is wrong by the orders before it, by the map and the tables
 abbrev pub wrong_by_itself : SheetKey → Bool → Block → Order → Option (Refusal × Objection)
-wrong_by_itself sent is_open block its = option_or (objection_behind block its) (objection_to sent.round is_open its)
+wrong_by_itself sent is_open block its =
+    option_or (wrong_by_steps sent.round block its) (objection_to sent.round is_open its)
 
 -- the order buys a train
 abbrev pub is_purchase : Order → Bool

@@ -7,7 +7,7 @@ ghost use Rattle.desk_check.specs.SheetSaid.{is_silent, nothing_read, presided, 
 ghost use Rattle.desk_check.specs.SheetSaid.{read_by_fault, read_by_head, read_by_order, read_then};
 ghost use Rattle.desk_check.specs.SheetSaid.{said_of_company, said_of_head, said_of_head_order, said_of_line, said_of_order};
 ghost use Rattle.desk_check.specs.SheetSaid.{said_of_wrong, shown_from, shown_of_sheet};
-ghost use Rattle.desk_check.specs.SheetSaid.{silent_in, silent_one, wrong_by_game, wrong_by_itself};
+ghost use Rattle.desk_check.specs.SheetSaid.{silent_in, silent_one, wrong_by_game, wrong_by_itself, wrong_by_steps};
 ghost use Rattle.desk_check.specs.Unplayed.{has_place, look_of};
 ghost use Rattle.desk_trials.specs.SheetFaults.{ends_sheet, is_out_of_place, said_of_fault};
 ghost use Rattle.sheets.specs.Limits.{lines_most};
@@ -178,7 +178,7 @@ impl Read {
         }
     }
 
-    /// Returns how far it is behind the head of a turn, or of a company's orders, on a line.
+    /// Returns how far it has come behind the head of a turn, or of a company's orders, on a line.
     fn with_head(self, line: usize, read: &NumberedLine) -> Read
         requires { self.number ≤ lines_most }
         ensures { result ≡ read_by_head self line (line_read read.now).reading }
@@ -191,7 +191,7 @@ impl Read {
         }
     }
 
-    /// Returns how far it is behind an order that has a place in a sheet.
+    /// Returns how far it has come behind an order that has a place in a sheet.
     fn with_order(self, sent: SheetKey, read: &NumberedLine) -> Read
         requires { self.number ≤ lines_most }
         ensures { result ≡ read_by_order sent self (line_read read.now) }
@@ -207,7 +207,7 @@ impl Read {
         }
     }
 
-    /// Returns how far it is behind a line with a fault.
+    /// Returns how far it has come behind a line with a fault.
     fn with_fault(self) -> Read
         requires { self.number ≤ lines_most }
         ensures { result ≡ read_by_fault self }
@@ -228,9 +228,18 @@ fn wrong_by_itself(
 ) -> Option<(Refusal, Objection)>
     ensures { result ≡ wrong_by_itself sent is_open block order.now }
 {
-    block
-        .objection(order)
-        .or(objection_to(sent.round, is_open, order))
+    wrong_by_steps(sent.round, block, order).or(objection_to(sent.round, is_open, order))
+}
+
+/// Returns why an order is wrong by the orders before it: those of a company's turn have steps, and
+/// those of other turns have none.
+fn wrong_by_steps(round: Round, block: Block, order: &Order) -> Option<(Refusal, Objection)>
+    ensures { result ≡ wrong_by_steps round block order.now }
+{
+    match round {
+        Round::Operating { .. } => block.objection(order),
+        Round::Opening(_) | Round::Stock(_) => None,
+    }
 }
 
 /// Returns what is said of an order that breaks a rule, if it breaks one.

@@ -13,7 +13,7 @@ const BYTE_ORDER_MARK: &[u8] = b"\xEF\xBB\xBF";
 const MAIL: &str = "it is of a mail; cut it off, or put # before it";
 
 /// What is wrong with a line of too many bytes.
-const TOO_LONG: &str = "it has over 1,024 bytes";
+const TOO_LONG: &str = "it has more than 1,024 bytes";
 
 /// What is wrong with a line that has a stray byte before its comment.
 const STRAY_BYTE: &str = "it has a byte that is not printable ASCII, such as a tab or a hard space";
@@ -43,9 +43,12 @@ pub(crate) struct Refusal<'a> {
 pub(crate) fn refusal_of(file: &[u8], fault: FileFault) -> Refusal<'_> {
     let (line, cause) = match fault {
         FileFault::TooLong | FileFault::Memory => {
-            (None, Cause::Said("it has over 67,108,864 bytes"))
+            (None, Cause::Said("it has more than 67,108,864 bytes"))
         }
-        FileFault::TooManySheets => (None, Cause::Said("it has over 65,536 good SHEET lines")),
+        FileFault::TooManySheets => (
+            None,
+            Cause::Said("it has more than 65,536 good SHEET lines"),
+        ),
         FileFault::Header => {
             let line = written_line(file, 0);
             (line, Cause::Said(cause_of_header(file, line)))
@@ -163,7 +166,7 @@ fn cause_of_name(name: &[u8], others: &[&[u8]]) -> Option<&'static str> {
         return Some(" does not begin with a letter");
     }
     if name.len() > NAME_MOST {
-        return Some(" has over 8 letters and digits");
+        return Some(" has more than 8 letters and digits");
     }
     for other in others {
         if other.eq_ignore_ascii_case(name) {

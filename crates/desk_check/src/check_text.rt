@@ -95,7 +95,7 @@ fn push_unlisted(out: &mut Vec<u8>, unlisted: usize) -> Result<(), AllocError>
 /// Adds the heading of the findings that are for the umpire only, since they show what the sheets
 /// of others do.
 pub(crate) fn push_heading(out: &mut Vec<u8>) -> Result<(), AllocError> {
-    let words = "FOR THE UMPIRE ALONE: refused with all sheets that are there\n";
+    let words = "FOR THE UMPIRE ALONE: with all sheets that are there\n";
     push(out, &[Words(words)])
 }
 

@@ -7,6 +7,7 @@ pub mod Found
 pub mod Heads
 pub mod Mail
 pub mod Numbered
+pub mod Reasons
 pub mod Refusals
 pub mod SheetFaults
 pub mod SheetLike

@@ -14,8 +14,8 @@
 //! `numbered` (the lines of a sheet), `refusals` (the lines that a trial refuses), `forced` (trains
 //! that companies must buy), `remedy` (how to pay for them), `outcome` (what the last round
 //! refused), `consent` and `taken` (what other players have to do with it), `told` (the findings of
-//! a trial), `sheet_orders`, `reasons`, `below` and `told_alone` (those of a sheet alone), `trials`
-//! (`try_sheets`).
+//! a trial), `sheet_orders`, `start`, `reasons`, `below` and `told_alone` (those of a sheet alone),
+//! `trials` (`try_sheets`).
 #![tactic(auto)]
 
 mod below;
@@ -33,6 +33,7 @@ mod refusals;
 mod remedy;
 mod sheet_like;
 mod sheet_orders;
+mod start;
 mod taken;
 mod told;
 mod told_alone;

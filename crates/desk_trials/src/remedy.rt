@@ -6,15 +6,15 @@ ghost use Rattle.sheets.specs.File.{players_of};
 
 use crate::forced::{Forced, ForcedFact};
 use certs::{Sale, market_price};
-use desk_base::{Coming, DeskFault, coming_in};
+use desk_base::{DeskFault, Moment, Position, position_at};
 use forced_purchase::{Operator, judge_raised_sale, lack};
 use foresight::{Ahead, Draft, RoundAhead};
-use history::{Event, History};
+use history::History;
 use market::down;
 use rounds::Game;
 use sheets::{SheetKey, Sheets};
 use std::alloc::{AllocError, Global};
-use tables::{Amount, Company, Money, Round, price};
+use tables::{Amount, Company, Money, price};
 
 /// The numbers of shares that a RAISE may name and single sales are fewer than: a company has ten.
 const NUMBERS: [u8; 9] = [2, 3, 4, 5, 6, 7, 8, 9, 10];
@@ -52,48 +52,31 @@ fn push_remedies(
     buyer: Company,
     forced: &[Forced],
 ) -> Result<(), AllocError> {
-    let Some(after) = round_before(game.history().events(), sent.round) else {
-        return Ok(());
-    };
-    match coming_in(alloc, game.sheets(), Some(after)) {
-        Ok(coming) => push_in_round(alloc, told, coming, sent, buyer, forced),
+    match position_at(alloc, game.sheets(), Moment::Before(sent.round)) {
+        Ok(before) => push_in_round(alloc, told, before, sent, buyer, forced),
         // An allocation failed: passed on.
         Err(DeskFault::Memory) => Err(AllocError),
         Err(_) => Ok(()),
     }
 }
 
-/// Returns the round before another; `None` if that was not played or is the first.
-fn round_before(events: &[Event], round: Round) -> Option<Round> {
-    let mut before = None;
-    for event in events {
-        if let Event::Round(begun) = event {
-            if *begun == round {
-                return before;
-            }
-            before = Some(*begun);
-        }
-    }
-    None
-}
-
 /// Adds the same, given the game before the round.
 fn push_in_round(
     alloc: Global,
     told: &mut Vec<Forced>,
-    coming: Coming,
+    before: Position,
     sent: SheetKey,
     buyer: Company,
     forced: &[Forced],
 ) -> Result<(), AllocError>
-    requires sound { IsSound coming.history }
-    requires seats { coming.history.seats ≡ length (players_of coming.sheets.now) }
+    requires sound { IsSound before.history }
+    requires seats { before.history.seats ≡ length (players_of before.sheets.now) }
 {
-    let Coming {
+    let Position {
         sheets,
         history,
         ..
-    } = coming;
+    } = before;
     let draft = Draft {
         sheets,
         drafter: Some(sent.seat),

@@ -1,7 +1,7 @@
 //! The orders of a sheet, with what is above each line, and the game as the round of the sheet
 //! begins.
 
-use desk_rules::Written;
+use desk_mending::Written;
 use desk_why::{LinePlace, SheetLine};
 use history::Event;
 use order_grammar::{Fault, PlayOrder};

@@ -7,12 +7,14 @@ use crate::check_found::{CodedLine, Fallback, Found};
 use crate::check_lines::FileLine;
 use crate::check_mail::is_mail;
 use crate::numbered::line_numbered;
-use crate::reasons::{Asked, IF_NOBODY, push_lasting, push_reasons};
+use crate::reasons::{Asked, IF_NOBODY, push_lasting, push_reasons, site_of};
 use crate::refusals::RefusedLine;
 use crate::sheet_orders::{OrderLine, SheetOrders, start_of};
+use crate::start::Start;
 use crate::told::{TriedSheet, add_told, is_unneeded};
 use desk_base::Piece::Words;
 use desk_base::{push, view_behind};
+use desk_rules::Site;
 use desk_why::{LinePlace, Ruled, SheetLine, lines_of, push_rule};
 use history::{Event, GameView, PackedRuling, Ruling, Verdict, Walk};
 use order_grammar::Order;
@@ -26,8 +28,8 @@ struct Known<'x, 'a> {
     lines: &'x [SheetLine<'x>],
     /// The orders of the sheet.
     orders: &'x SheetOrders,
-    /// The game as the round begins.
-    start: &'x GameView<'x>,
+    /// The game as the round begins, with its board.
+    start: &'x Start<'x>,
     /// The codes that its lines have been told.
     coded: &'x [CodedLine],
     /// The lines that the trial did not obey.
@@ -51,6 +53,7 @@ pub(crate) fn tell_alone_refused<'a>(
     let coded = found.coded_within(alloc, played.numbered)?;
     let mut walk = Walk::along(events);
     let start = view_behind(&mut walk, start_of(events, sent.round), seats);
+    let start = Start::of(alloc, &start)?;
     let known = Known {
         lines: lines.as_slice(),
         orders: &orders,
@@ -147,7 +150,7 @@ fn push_row(
     if let Ruling::Refused {
         rule,
         condition,
-        order: Order::Play(order),
+        order,
     } = ruling.ruling()
         && let Some(its) = known.orders.at(row.number)
     {
@@ -155,7 +158,7 @@ fn push_row(
             start: known.start,
             orders: known.orders,
             line: its,
-            order,
+            order: &order,
             coded: known.coded,
             number: line.number,
         };
@@ -202,29 +205,31 @@ fn tell_lasting<'a>(
     if line.number < found.from || is_refused && !is_listed || !is_asked(known, its.place) {
         return Ok(());
     }
+    let order = Order::Play(order);
     let asked = Asked {
         start: known.start,
         orders: known.orders,
         line: its,
-        order,
+        order: &order,
         coded: known.coded,
         number: line.number,
     };
     let mut text = Vec::new(alloc);
-    push_lasting(alloc, &mut text, ruled_at(known, known.start), asked)?;
+    push_lasting(alloc, &mut text, ruled_at(known, known.start.view), asked)?;
     add_text(known, &line, text.as_slice(), found)
 }
 
-/// Returns whether the lines at a place may be reached: they are in a turn, or among the orders for
-/// a company that operates and over which the player presides as the round begins.
+/// Returns whether the lines at a place may be reached: they are among no orders for a company, or
+/// for one that operates and over which the player presides as the round begins.
 fn is_asked(known: Known, place: LinePlace) -> bool {
     let sent = known.played.head.sent;
-    match (sent.round, place) {
-        (Round::Stock(_), LinePlace::Turn) => true,
-        (Round::Operating { .. }, LinePlace::Orders(company)) => {
-            known.start.floated(company) && known.start.president(company) == Some(sent.seat)
+    match site_of(sent.round, place) {
+        Some(Site::Orders(company)) => {
+            known.start.view.floated(company)
+                && known.start.view.president(company) == Some(sent.seat)
         }
-        _ => false,
+        Some(_) => true,
+        None => false,
     }
 }
 
@@ -250,7 +255,7 @@ fn tell_below<'a>(
         &mut text,
         version,
         known.orders,
-        known.start,
+        known.start.view,
         its,
         numbered,
     )?;

@@ -9,7 +9,7 @@ use crate::check_found::{Found, Standing};
 use crate::check_sheets::{Head, Heads};
 use crate::forced::forced_of;
 use crate::numbered::numbered_lines;
-use crate::outcome::{Outcome, SeatLine, push_lines, rows_beyond};
+use crate::outcome::Outcome;
 use crate::refusals::{RefusedLine, refused_of};
 use crate::remedy::with_remedies;
 use crate::told::{Trial, TriedSheet, tell_forced, tell_refused};
@@ -37,10 +37,11 @@ pub struct Reached {
 }
 
 /// Adds what the trials alone find in the sheets for the awaited round, and adds to `beyond` what
-/// the trial of all these sheets refuses and no trial alone does. If only a part of the file is
-/// reported, the last round played is looked at, too: as if it were awaited while no sheet for the
-/// next round is there; then only by those of its sheets that begin on the first reported line or
-/// below it, and for what happened in the round itself. Fails only if allocation fails.
+/// the trial of all these sheets refuses, and what companies must buy in it, where no trial alone
+/// does. If only a part of the file is reported, the last round played is looked at, too: as if it
+/// were awaited while no sheet for the next round is there; then only by those of its sheets that
+/// begin on the first reported line or below it, and for what happened in the round itself. Fails
+/// only if allocation fails.
 pub fn try_sheets<'a>(
     alloc: Global,
     file: &[u8],
@@ -83,7 +84,7 @@ pub fn try_sheets<'a>(
         awaited.as_slice(),
         round,
         &trial,
-        alone.as_slice(),
+        &alone,
         beyond,
     )
 }
@@ -212,11 +213,11 @@ fn try_each_alone<'a>(
     played: &Option<Outcome>,
     trial: &mut TrialFile,
     found: &mut Found<'a>,
-) -> Result<Vec<SeatLine>, AllocError>
+) -> Result<Outcome, AllocError>
     requires { IsBegun sheets.now trial.old }
     ensures { IfOk result (λ _. IsBegun sheets.now trial.new) }
 {
-    let mut alone = Vec::new(alloc);
+    let mut alone = Outcome::none(alloc);
     for head in heads {
         trial.put_alone(sheets, head.sent.round, head.sent.seat)?;
         try_alone(alloc, sheets, head, played, trial, found, &mut alone)?;
@@ -224,7 +225,7 @@ fn try_each_alone<'a>(
     Ok(alone)
 }
 
-/// Adds what the trial alone finds in the sheet that a head begins, and the lines that it refuses.
+/// Adds what the trial alone finds in the sheet that a head begins, and what becomes of the sheet.
 /// If the file of the trial is refused because it is longer than the order file, it finds nothing.
 fn try_alone<'a>(
     alloc: Global,
@@ -233,7 +234,7 @@ fn try_alone<'a>(
     played: &Option<Outcome>,
     trial: &TrialFile,
     found: &mut Found<'a>,
-    alone: &mut Vec<SeatLine>,
+    alone: &mut Outcome,
 ) -> Result<(), AllocError>
     requires { trial.now.bytes.items
         ≡ alone_file sheets.now head.now.sent.round head.now.sent.seat }
@@ -261,14 +262,14 @@ fn try_sheet<'g>(
 }
 
 /// Adds what the trial alone of the sheet that a head begins finds, by the sheets of the trial, and
-/// the lines that it refuses; if its round was played, only what happened in that, too.
+/// what becomes of the sheet; if its round was played, only what happened in that, too.
 fn tell_alone<'a>(
     alloc: Global,
     tried: &Sheets,
     head: &Head<'a>,
     played: &Option<Outcome>,
     found: &mut Found<'a>,
-    alone: &mut Vec<SeatLine>,
+    alone: &mut Outcome,
 ) -> Result<(), AllocError> {
     let Tried { game, rows } = try_sheet(alloc, tried, head.sent)?;
     let rows = match played {
@@ -291,6 +292,7 @@ fn tell_alone<'a>(
         _ => tell_refused(alloc, sheet, rows.as_slice(), found)?,
     }
     let forced = forced_of(alloc, &game, head.sent)?;
+    alone.add(head.sent.seat, rows.as_slice(), forced.as_slice())?;
     let forced = match played {
         Some(outcome) => outcome.also_forced(alloc, forced.as_slice())?,
         None => with_remedies(alloc, &game, head.sent, forced.as_slice())?,
@@ -298,19 +300,19 @@ fn tell_alone<'a>(
     for one in &forced {
         tell_forced(sheet, *one, found)?;
     }
-    push_lines(alone, head.sent.seat, rows.as_slice())
+    Ok(())
 }
 
 /// Adds those lines of the sheets begun by some heads that the trial of all sheets for a round
-/// refuses and no trial alone does. If the file of the trial is refused because it is longer than
-/// the order file, it finds nothing.
+/// refuses and no trial alone does, and what companies must buy in it alone. If the file of the
+/// trial is refused because it is longer than the order file, it finds nothing.
 fn try_all<'a>(
     alloc: Global,
     sheets: &Sheets,
     heads: &[Head<'a>],
     round: Round,
     trial: &TrialFile,
-    alone: &[SeatLine],
+    alone: &Outcome,
     beyond: &mut Found<'a>,
 ) -> Result<(), AllocError>
     requires { trial.now.bytes.items ≡ tried_file sheets.now round }
@@ -324,12 +326,12 @@ fn try_all<'a>(
 }
 
 /// Adds those lines of the sheets begun by some heads that this trial refuses and no trial alone
-/// does.
+/// does, and what companies must buy in it alone.
 fn tell_all<'a>(
     alloc: Global,
     tried: &Sheets,
     heads: &[Head<'a>],
-    alone: &[SeatLine],
+    alone: &Outcome,
     beyond: &mut Found<'a>,
 ) -> Result<(), AllocError> {
     let game = play(alloc, tried)?;
@@ -340,22 +342,28 @@ fn tell_all<'a>(
 }
 
 /// Adds those lines of the sheet begun by a head that a game refuses and the trial of the sheet
-/// alone did not.
+/// alone did not, and what its companies must buy that they need not buy in that trial.
 fn tell_beyond<'g, 'a>(
     alloc: Global,
     game: &'g Game<'g>,
     head: &Head<'a>,
-    alone: &[SeatLine],
+    alone: &Outcome,
     beyond: &mut Found<'a>,
 ) -> Result<(), AllocError> {
     let numbered = numbered_lines(alloc, head)?;
     let all = refused_of(alloc, game.history().events(), head.sent)?;
-    let rows = rows_beyond(alloc, alone, head.sent.seat, all.as_slice())?;
+    let rows = alone.rows_beyond(alloc, head.sent.seat, all.as_slice())?;
+    let forced = forced_of(alloc, game, head.sent)?;
+    let forced = alone.forced_beyond(alloc, forced.as_slice())?;
     let sheet = TriedSheet {
         trial: Trial::All,
         game,
         head,
         numbered: numbered.as_slice(),
     };
-    tell_refused(alloc, sheet, rows.as_slice(), beyond)
+    tell_refused(alloc, sheet, rows.as_slice(), beyond)?;
+    for one in &forced {
+        tell_forced(sheet, *one, beyond)?;
+    }
+    Ok(())
 }

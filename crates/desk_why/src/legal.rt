@@ -3,7 +3,7 @@
 use crate::refusal_detail::{Ruled, push_colour};
 use desk_base::Piece::{Bytes, Count, Words};
 use desk_base::{board_at, fill};
-use desk_rules::legal_lays;
+use desk_map_rules::legal_lays;
 use history::LayRule;
 use map_tables::{Lay, TileNo};
 use moves::Priced;

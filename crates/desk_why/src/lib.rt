@@ -24,7 +24,7 @@ mod why;
 
 pub use case::push_case;
 pub use fallback::is_fallback;
-pub use refusal_detail::{Ruled, push_place_meant};
+pub use refusal_detail::{Broken, Ruled, push_place_meant};
 pub use refused::{refused_in, within_then};
 pub use sheet_line::{LinePlace, SheetLine, find_line, lines_of};
 pub use why::{FAULTY_COLUMNS, push_broken, push_rule, push_why};

@@ -17,7 +17,7 @@ use desk_base::{
     objection_to, push, push_beyond, push_objection,
 };
 use history::{
-    Event, GameView, Holder, LayRule, OpeningRule, Party, PrivateRule, Refusal, Ruling, RunRule,
+    Event, GameView, Holder, LayRule, OpeningRule, Party, PrivateRule, Refusal, RunRule,
     Shareholder, StockRule, TokenRule, TrainRule,
 };
 use map_tables::{Colour, Hex, Lay, Place, printed_colour, tile};
@@ -54,6 +54,17 @@ impl Ruled<'_> {
     {
         self.place?.company()
     }
+}
+
+/// A rule that an order breaks.
+#[derive(Clone, Copy)]
+pub struct Broken<'a> {
+    /// The rule.
+    pub rule: Refusal,
+    /// The condition of the order, if it has one.
+    pub condition: Option<Condition>,
+    /// The order.
+    pub order: &'a Order,
 }
 
 /// What is told of a ruling that refused an order, beside its rule.
@@ -100,24 +111,17 @@ pub(crate) fn push_refusal_detail<'a>(
     alloc: Global,
     out: &mut Vec<u8>,
     ruled: Ruled<'a>,
-    ruling: &'a Ruling,
+    broken: Broken<'a>,
 ) -> Result<(), AllocError> {
-    let Ruling::Refused {
-        rule,
-        condition,
-        order,
-    } = ruling
-    else {
-        return Ok(());
-    };
-    let detail = detail_of(ruled, *condition, order, *rule);
+    let (rule, order) = (broken.rule, broken.order);
+    let detail = detail_of(ruled, broken.condition, order, rule);
     if let Some(figures) = detail.figures {
         push_figures(out, ruled.sheets, ruled.seat, figures)?;
     }
     if let (Some(place), Some(cause)) = (ruled.place, detail.cause) {
         push_cause(out, place, cause)?;
     }
-    push_by_order(alloc, out, ruled, *rule, order)
+    push_by_order(alloc, out, ruled, rule, order)
 }
 
 /// Adds what shows that an order breaks a rule: the order itself, or the state by which it was

@@ -4,7 +4,7 @@ ghost use Rattle.desk_why.specs.Why.{reason_of};
 ghost use Rattle.events.specs.RulingText.{verdict_of};
 
 use crate::case::push_case;
-use crate::refusal_detail::{Ruled, push_of_place, push_refusal_detail};
+use crate::refusal_detail::{Broken, Ruled, push_of_place, push_refusal_detail};
 use crate::sheet_line::{SheetLine, find_line};
 use desk_base::Piece::{Cut, Words};
 use desk_base::{Reason, fill};
@@ -53,23 +53,37 @@ pub fn push_rule<'a>(
     if let (Verdict::Faulty(fault), Some(line)) = (ruling.verdict(), line) {
         return push_fault(out, ruled, &line, fault);
     }
-    push_broken(alloc, out, ruled, number, reason, &ruling.ruling())
+    let ruling = ruling.ruling();
+    match &ruling {
+        Ruling::Refused {
+            rule,
+            condition,
+            order,
+        } => {
+            let broken = Broken {
+                rule: *rule,
+                condition: *condition,
+                order,
+            };
+            push_broken(alloc, out, ruled, number, broken)
+        }
+        _ => push_case(out, reason, &[]),
+    }
 }
 
-/// Adds a reason why a line of a sheet is refused, with its code and the figures that its rule
-/// compares for this ruling. Fails only if allocation fails.
+/// Adds a rule that the order of a line of a sheet breaks, with its code and the figures that the
+/// rule compares. Fails only if allocation fails.
 pub fn push_broken<'a>(
     alloc: Global,
     out: &mut Vec<u8>,
     ruled: Ruled<'a>,
     number: u32,
-    reason: Reason,
-    ruling: &'a Ruling,
+    broken: Broken<'a>,
 ) -> Result<(), AllocError> {
     let place = find_line(ruled.lines, ruled.seat, number).map(|line| line.place);
     let mut detail = Vec::new(alloc);
-    push_refusal_detail(alloc, &mut detail, Ruled { place, ..ruled }, ruling)?;
-    push_case(out, reason, detail.as_slice())
+    push_refusal_detail(alloc, &mut detail, Ruled { place, ..ruled }, broken)?;
+    push_case(out, Reason::Order(broken.rule), detail.as_slice())
 }
 
 /// Adds the fault of a line of a sheet, with its code, the line itself, and what to write in its
