@@ -1,8 +1,8 @@
--- What is told of the rows of a company's turn. A train or a private that is obeyed, or that lacks only
--- a consent, is told with its price; of a train of another company and of a private also up to which price
--- it may be, and who must offer it, if another player does. Of those that are refused the player is told of
--- each kind of train that the bank sells, and of each private that a player owns: by which rule, if whoever
--- is asked consents; and if the company has too little, with the price and what it has.
+-- What is told of the rows of a company's turn. An order for a train or a private that would be obeyed, or
+-- that lacks only a consent, is told with its price. For a train of another company, and for a private, the
+-- highest price is told as well, and who must offer it if another player does. Of refused orders the player
+-- is told those for each kind of train that the bank sells, and for each private that a player owns: the rule
+-- that is broken if the seller consents, and if the company has too little, the price and what it has.
 use Rattle.std.specs.Prelude.{ℕ, ◌*◌, ◌/◌, ◌==◌, if◌then◌else◌, List, Option, Some, None, ℤ, pos, is_none}
 use Rattle.std.specs.Int.Signed.{le_z}
 use Rattle.desk_may.specs.Offerers.{as_offered}
@@ -121,7 +121,7 @@ told_private game by private least (Obeyed price) = Some (May price (note_of_pri
 told_private game by private least (WithConsent price giver sale) = Some (May price (note_of_private game by private))
 told_private game by private least (Refused rule) = not_of_private game by.company private least rule
 
--- only at the least price, half of the face value, it is told
+-- it is told only at the lowest price, half the face value
 abbrev pub told_private_at : Game → Operator → Private → ℕ → Answer → Option Told
 told_private_at game by private price answer =
     if price == face_of private / 2 then told_private game by private price answer else None

@@ -1,5 +1,5 @@
--- Who may offer a train. An OFFER is a standing line, which is ruled as the round begins: so it is obeyed of the one who
--- presides over the seller then, and not of one who comes to preside during the round.
+-- Who may offer a train. An OFFER is a standing line, which is decided as the round begins: it is obeyed if its player
+-- presides over the seller then, and refused if they become its president during the round.
 use Rattle.std.specs.Prelude.{Bool, true, if◌then◌else◌, List, map, Option, None, slice_get, unwrap_or}
 use Rattle.events.specs.declared.event.Event.{Event}
 use Rattle.events.specs.declared.ruling.Refusal.TheVariants as refusal

@@ -1,7 +1,7 @@
--- What is told of the rows of an opening. Of each unsold private the player is told of one order: to
--- buy the cheapest, and the least bid on each other. It is told with its price if it is obeyed, and
--- otherwise with the rule that refuses it; if the player has too little for it, with its price and with
--- what they could spend on that private.
+-- What is told of the rows of an opening. For each unsold private the player is told one order: to buy
+-- the cheapest, or the lowest bid on each other one. It is told with its price if it would be obeyed, and
+-- otherwise with the rule that refuses it. If the player has too little for it, its price is told, and what
+-- they could spend on that private.
 use Rattle.std.specs.Prelude.{◌==◌, Bool, false, not, ◌&&◌, if◌then◌else◌, List, Option, Some, None, ℤ, pos}
 use Rattle.desk_may.specs.Told.{lacks_money, not_by}
 use Rattle.desk_may.specs.declared.told.Held.{Held}

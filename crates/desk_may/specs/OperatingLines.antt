@@ -1,6 +1,6 @@
--- The rows of a player as the lines of a sheet for an operating round that comes: the standing lines, and for each company
--- that the player leads when its turn comes, in operating order, COMPANY and its orders. Trains are judged once the company
--- has withheld, since a TRAIN line withholds first; the RAISE lines are there if the company must buy a train.
+-- The rows of a player as the lines of a sheet for a coming operating round: the standing lines, and for each company over
+-- which the player presides by its turn, in operating order, COMPANY and its orders. Trains are judged once the company has
+-- withheld, since a TRAIN line withholds first; there are RAISE lines if the company must buy a train.
 use Rattle.std.specs.Prelude.{◌≡◌, ℕ, zero, suc, ◌⊎◌, true, false, List, [], ◌∷◌, ◌++◌, map, Option, Some, None, codes}
 use Rattle.desk_may.specs.Offerers.{presidents_of}
 use Rattle.desk_may.specs.RaiseRows.{raise_row, raises}
@@ -51,7 +51,7 @@ AreRaiseLines orders lines =
     (IsDue orders.turn.game orders.by.company × (lines ≡ raise_lines orders))
     ⊎ ((¬ IsDue orders.turn.game orders.by.company) × (lines ≡ []))
 
--- the lines of a company at the head of its orders, or behind those that are drafted
+-- the lines of a company at the start of its orders, or after those that are drafted
 pub record AreCompanyLines (presidents : List (Option Seat)) (orders : OrdersState) (lines : List ℕ) : Type 0 where
   pub raised : List ℕ
   pub due : AreRaiseLines (withheld_in orders) raised
@@ -64,14 +64,14 @@ pub record AddsOrders (presidents : List (Option Seat)) (orders : OrdersState) (
   pub written : AreCompanyLines presidents orders lines
   pub added : new ≡ old ++ lines
 
--- the turn of a company that a seat leads, with its lines
+-- the turn of a company over which a seat presides, with its lines
 pub record IsOwnTurn (presidents : List (Option Seat)) (by : Operator) (old new : AheadState) (lines : List ℕ) : Type 0 where
   pub orders : OrdersState
   pub behind : IsBehindDraft old by orders
   pub written : AreCompanyLines presidents orders lines
   pub ended : HasEnded (withheld_in orders) new
 
--- the turn of a company that a seat leads, or of another company, of which nothing is written
+-- the turn of a company over which a seat presides, or of another company, of which nothing is written
 abbrev pub IsTurnWritten : List (Option Seat) → Seat → Company → AheadState → AheadState → List ℕ → Type 0
 IsTurnWritten presidents seat company old new lines =
     ((is_president (president_of old.game.events company) seat ≡ true)

@@ -1,5 +1,5 @@
 -- A row as a line: the order as a sheet could hold it, four spaces, and what becomes of it. That is OK with its price; the
--- same with whose offer it takes; or the code of the rule that refuses it.
+-- same with the offer that it needs; or the code of the rule that refuses it.
 use Rattle.std.specs.Prelude.{ℕ, List, [], ◌∷◌, ◌++◌, Option, codes}
 use Rattle.std.specs.Fmt.{signed_decimal}
 use Rattle.std.specs.List.{flat_map}

@@ -16,7 +16,7 @@ use Rattle.totals.specs.LookBack.{Game}
 abbrev pub standing_lines : List ℕ → Game → Round → Seat → List ℕ
 standing_lines file game round seat = row_lines file (standing_rows game.events seat round)
 
--- the rows of a seat's turn: of an opening, or else of a stock round
+-- the rows of a seat's turn: of an opening, or otherwise of a stock round
 abbrev pub turn_rows : TurnAhead → Round → Seat → List Row
 turn_rows turn (Opening number) seat =
     map (opening_row turn.history seat turn.used) (opening_orders turn.history.events)

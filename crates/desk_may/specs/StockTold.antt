@@ -1,10 +1,10 @@
--- What is told of the rows of a stock round. An order that is obeyed is told with its price. Of a share
--- it is also told if several may be bought in a turn, of a sale where the token of the company is before
--- and after it, and of an exchange where the share comes from. An order that is refused is told with its
--- rule if it may have been expected: to start a company that is not started, at the least par value; to
--- buy a share of one that is started where there are some; to sell one share, if the player has some; to
--- exchange MH, if the player owns it. A purchase is told with what it would cost; and if the rule is about
--- cash, or about six shares, with what the player has.
+-- What is told of the rows of a stock round. An order that would be obeyed is told with its price. For a
+-- share it is also told whether several may be bought in a turn; for a sale where the token of the company
+-- is before and after it; for an exchange where the share comes from. A refused order is told with its rule
+-- if it may have been expected: to start a company that is not started, at the lowest par value; to buy a
+-- share of a started company from a place that has one; to sell one share, if the player has some; to
+-- exchange MH, if the player owns it. A purchase is told with its cost, and if the rule is about cash, or
+-- about six shares, with what the player has.
 use Rattle.std.specs.Prelude.{ℕ, ◌==◌, Bool, true, false, not, ◌&&◌, if◌then◌else◌, List, Option, Some, None, ℤ, pos}
 use Rattle.std.specs.Prelude.{nat_lt}
 use Rattle.std.specs.Int.Signed.{lt_z}
@@ -54,11 +54,11 @@ abbrev pub is_brown_square : Option Square → Bool
 is_brown_square None = false
 is_brown_square (Some square) = is_brown_zone (zone_of square)
 
--- the price of a company is brown
+-- the token of a company is in the brown zone
 abbrev pub is_brown : List Event → Company → Bool
 is_brown events company = is_brown_square (square_of events company)
 
--- several may be bought in a turn, if the price is brown
+-- several may be bought in a turn, if the token is in the brown zone
 abbrev pub several_if : Bool → Note
 several_if is_brown = if is_brown then Several else Nothing
 
@@ -117,7 +117,7 @@ abbrev pub shares_on : List Event → Seat → PlayOrder → Held
 shares_on events seat (BuyShare company from) = shares_held events seat company
 shares_on events seat other = Unsaid
 
--- that is told if the rule is that it would be over six
+-- that is told if the rule is that of six shares
 abbrev pub held_by : List Event → Seat → PlayOrder → StockRule → Held
 held_by events seat order OverSixShares = shares_on events seat order
 held_by events seat order other = Unsaid

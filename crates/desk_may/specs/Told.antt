@@ -1,5 +1,5 @@
--- What is told of an order that a rule refuses: the rule. If the rule is that who buys has too little
--- money, it is told with the price and with what they have.
+-- What is told of an order that a rule refuses: the rule. If it is that the buyer has too little money,
+-- the price is told as well, and what they have.
 use Rattle.std.specs.Prelude.{Bool, true, false, None}
 use Rattle.desk_may.specs.declared.told.Held.TheVariants.{Unsaid}
 use Rattle.desk_may.specs.declared.told.Told.{Told}
@@ -15,7 +15,7 @@ use Rattle.events.specs.declared.ruling.TrainRule.TheVariants as train_rule
 abbrev pub not_by : Refusal → Told
 not_by rule = Not rule None Unsaid
 
--- the rule is that who buys has too little money: A5, S10, T3 or P5
+-- the rule is that the buyer has too little money: A5, S10, T3 or P5
 abbrev pub lacks_money : Refusal → Bool
 lacks_money (refusal.Opening opening_rule.CashTooSmall) = true
 lacks_money (refusal.Stock stock_rule.CashTooSmall) = true

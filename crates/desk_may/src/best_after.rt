@@ -13,7 +13,7 @@ use map_tables::{Lay, Place};
 use std::alloc::{AllocError, Global};
 use tables::{Company, Kind, Money, Round};
 
-/// A company with its trains, in a game, at the head of its orders or after some of them.
+/// A company with its trains, in a game, at the start of its orders or after some of them.
 #[derive(Clone, Copy)]
 pub struct Trains<'a> {
     /// Where the board and the search are allocated.

@@ -1,8 +1,8 @@
-//! What a player may do in the coming round, as text: what they may buy, bid and sell, what they
-//! might expect but may not, with the rule that forbids it, and a train that a company of theirs
+//! What a player may do in the coming round, as text: what they may buy, bid and sell, orders
+//! that are refused though one may expect them, with the rule, and a train that a company of theirs
 //! must buy.
 //!
-//! Each line is made from a row of `moves`, at the head of the player's turn or of their company's
+//! Each line is made from a row of `moves`, at the start of the player's turn or of their company's
 //! orders (`foresight`), and from what is said about that row. What is said is proved; how it is
 //! printed is tested.
 //!

@@ -142,8 +142,8 @@ fn push_turn<'a>(
     push_orders(alloc, out, orders, presidents)?.finish()
 }
 
-/// Adds the orders of a company at the head of its orders, or after those drafted. Returns its turn
-/// after it has withheld.
+/// Adds the orders of a company at the start of its orders, or after those drafted. Returns its
+/// turn after it has withheld.
 fn push_orders<'a>(
     alloc: Global,
     out: &mut Vec<u8>,

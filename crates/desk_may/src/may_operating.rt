@@ -1,4 +1,4 @@
-//! What a player's companies may buy in a coming operating round, each at the head of its orders,
+//! What a player's companies may buy in a coming operating round, each at the start of its orders,
 //! or after those that the player has drafted.
 use crate::may_line::{push_given, push_not_given};
 use crate::must_buy::push_end_of_turn;
@@ -71,7 +71,7 @@ fn has_operated(history: &History, from: usize, company: Company) -> bool {
     events.iter().any(|event| event.operated() == Some(company))
 }
 
-/// Adds what a company may buy at the head of its orders, or after those drafted, and the train
+/// Adds what a company may buy at the start of its orders, or after those drafted, and the train
 /// that it must buy if its turn ends there. Returns the round after its turn.
 fn push_turn<'a>(
     alloc: Global,

@@ -14,8 +14,8 @@ use sheets::Sheets;
 use std::alloc::{AllocError, Global};
 use tables::{Company, Money, Seat};
 
-/// Adds what a player may buy, sell and exchange in the next line of their turn, and what they
-/// might expect but may not. Fails only if allocation fails.
+/// Adds what a player may buy, sell and exchange in the next line of their turn, and orders that
+/// are refused though one may expect them. Fails only if allocation fails.
 pub fn push_of_stock(
     alloc: Global,
     out: &mut Vec<u8>,

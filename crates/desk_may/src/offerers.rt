@@ -1,4 +1,4 @@
-//! Who may offer a train. An OFFER is a standing line, which is ruled as the round begins.
+//! Who may offer a train. An OFFER is a standing line, which is decided as the round begins.
 ghost use Rattle.std.specs.Prelude.{◌≡◌, IfOk};
 ghost use Rattle.desk_may.specs.Offerers.{as_offered, led_it, may_offer, presidents_of};
 

@@ -13,7 +13,7 @@ use order_grammar::PlayOrder;
 use privates::price_of_private;
 use tables::{Money, Private, Seat};
 
-/// A seat in an opening, at the head of its turn.
+/// A seat in an opening, at the start of its turn.
 #[derive(Clone, Copy)]
 pub(crate) struct OpeningTeller<'a> {
     pub(crate) history: &'a History,

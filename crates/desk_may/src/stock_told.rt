@@ -15,7 +15,7 @@ use order_grammar::{PlayOrder, ShareSource};
 use stock_round::exchange_source;
 use tables::{Amount, Company, LEAST_PAR, Money, Private, Seat, Zone, zone};
 
-/// A seat in a stock round, at the head of its turn.
+/// A seat in a stock round, at the start of its turn.
 #[derive(Clone, Copy)]
 pub(crate) struct StockTeller<'a> {
     pub(crate) history: &'a History,

@@ -4,11 +4,12 @@ use Rattle.std.specs.Prelude.{◌≡◌, ℕ, Bool, true, not, ◌&&◌, if◌th
 use Rattle.std.specs.Str.{str_eq_ignore_ascii_case}
 use Rattle.desk_may.specs.OperatingLines.{AddsOperatingLines}
 use Rattle.desk_may.specs.SheetLines.{standing_lines, turn_lines}
-use Rattle.desk_base.specs.NextRound.{IsComing}
 use Rattle.desk_moves.specs.BestRuns.{AreBestRuns}
 use Rattle.desk_moves.specs.Coming.{AreOrdersIn}
 use Rattle.desk_moves.specs.Lines.{AreLines}
-use Rattle.desk_base.specs.declared.next_round.Coming.{Coming}
+use Rattle.desk_base.specs.Played.{moment_after}
+use Rattle.desk_base.specs.Positions.{IsAt}
+use Rattle.desk_base.specs.declared.positions.Position.{Position}
 use Rattle.desk_moves.specs.declared.questions.LayForm.{LayForm}
 use Rattle.desk_moves.specs.declared.questions.Question.{Question}
 use Rattle.desk_moves.specs.declared.questions.Question.TheVariants.{Best, Lays, May}
@@ -30,7 +31,7 @@ abbrev pub drafter_for : Bool → Option Seat → Option Seat
 drafter_for drafted seat = if drafted then seat else None
 
 -- these are the lines of the lays and tokens of a company, at the turn that is asked about
-pub record AreLaysOf (coming : Coming) (company : Company) (drafted : Bool) (text : List ℕ) : Type 0 where
+pub record AreLaysOf (coming : Position) (company : Company) (drafted : Bool) (text : List ℕ) : Type 0 where
   pub orders : OrdersState
   pub are_orders : AreOrdersIn coming company (drafter_for drafted (president_of coming.history.events company)) orders
   pub are_lines : AreLines orders.turn orders.by.company text
@@ -55,15 +56,16 @@ AddsLinesIn drafter file game (Operating set number) seat old new =
 AddsLinesIn drafter file game other seat old new = AddsTurnLines drafter file game other seat old new
 
 -- these are the lines of the player who is asked about, by a name in capital or small letters
-pub record AreLinesOf (coming : Coming) (name : List ℕ) (drafted : Bool) (text : List ℕ) : Type 0 where
+pub record AreLinesOf (coming : Position) (name : List ℕ) (drafted : Bool) (text : List ℕ) : Type 0 where
   pub seat : Seat
   pub named : str_eq_ignore_ascii_case (name_of coming.sheets.now seat) name ≡ true
   pub round : Round
   pub awaited : coming.end ≡ Awaiting round
   pub are : AddsLinesIn (drafter_for drafted (Some seat)) coming.sheets.now coming.history round seat [] text
 
--- these are the best runs of a company, at the head of its orders in the coming round, with these trains, or with its own
-pub record AreBestOf (coming : Coming) (company : Company) (named : List Kind) (text : List ℕ) : Type 0 where
+-- these are the best runs of a company, at the start of its orders in the coming round, with these
+-- trains, or with its own
+pub record AreBestOf (coming : Position) (company : Company) (named : List Kind) (text : List ℕ) : Type 0 where
   pub orders : OrdersState
   pub are_orders : AreOrdersIn coming company None orders
   pub are : AreBestRuns orders.turn.game company named text
@@ -73,7 +75,7 @@ abbrev pub are_lines : LayForm → Bool
 are_lines form = form.lines && not form.best
 
 -- a text answers a question
-abbrev pub Answers : Coming → Question → List ℕ → Type 0
+abbrev pub Answers : Position → Question → List ℕ → Type 0
 Answers coming (Lays company form) text = are_lines form ≡ true → AreLaysOf coming company form.drafted text
 Answers coming (May name form) text = form.lines ≡ true → AreLinesOf coming name.now form.drafted text
 Answers coming (Best company trains) text = AreBestOf coming company trains.now text
@@ -81,6 +83,6 @@ Answers coming other text = ⊤
 
 -- a text answers a question in the game before the round that comes
 pub record IsAnswer (file : List ℕ) (after : Option Round) (question : Question) (text : List ℕ) : Type 0 where
-  pub coming : Coming
-  pub is_coming : IsComing file after coming
+  pub coming : Position
+  pub is_coming : IsAt file (moment_after after) coming
   pub answers : Answers coming question text

@@ -1,5 +1,5 @@
--- The lays and tokens of a company as order lines: those that it may make where its turn has come to, all of them and no
--- others, in their order, each with its price behind four spaces.
+-- The lays and tokens of a company as order lines: all those that it may make at this point of its turn, and no others, in
+-- their order, each with four spaces and its price after it.
 use Rattle.std.specs.Prelude.{◌≡◌, ℕ, List, [], ◌∷◌, ◌++◌, codes, ℤ}
 use Rattle.std.specs.Fmt.{signed_decimal}
 use Rattle.std.specs.List.{flat_map}

@@ -1,4 +1,4 @@
--- What a word of a command line names, in letters of either case.
+-- What a word of a command line names, in capital or small letters.
 use Rattle.std.specs.Prelude.{ℕ, Bool, List, Option, find, map}
 use Rattle.std.specs.Char.{to_ascii_uppercase}
 use Rattle.std.specs.Str.{str_eq_ignore_ascii_case}

@@ -5,12 +5,12 @@ ghost use Rattle.rounds.specs.declared.game.End.TheVariants.{Awaiting};
 ghost use Rattle.totals.specs.Shares.{president_of};
 
 use crate::fault::{MovesFault, NoAnswer};
-use desk_base::{Coming, owes};
+use desk_base::{Position, owes};
 use rounds::End;
 use tables::{Company, Round, Seat};
 
 /// Returns the coming round. Fails with `GameOver` if there is none.
-pub(crate) fn coming_round(coming: &Coming) -> Result<Round, MovesFault>
+pub(crate) fn coming_round(coming: &Position) -> Result<Round, MovesFault>
     ensures { IfOk result (λ round. coming.now.end ≡ Awaiting round) }
 {
     match coming.end {
@@ -21,7 +21,7 @@ pub(crate) fn coming_round(coming: &Coming) -> Result<Round, MovesFault>
 
 /// Returns the president of a company, who gives its orders. Fails with `NotStarted` or
 /// `NoPresident` if it has none.
-pub(crate) fn president_in(coming: &Coming, company: Company) -> Result<Seat, MovesFault>
+pub(crate) fn president_in(coming: &Position, company: Company) -> Result<Seat, MovesFault>
     ensures { IfOk result (λ seat.
         president_of coming.now.history.events company ≡ Some seat) }
 {
@@ -37,7 +37,7 @@ pub(crate) fn president_in(coming: &Coming, company: Company) -> Result<Seat, Mo
 
 /// Returns a seat whose own sheet for the round is to be looked at. Fails with `NoDraft` if it
 /// has none, and with `GameOver` if no round follows.
-pub(crate) fn drafter_in(coming: &Coming, seat: Seat) -> Result<Seat, MovesFault>
+pub(crate) fn drafter_in(coming: &Position, seat: Seat) -> Result<Seat, MovesFault>
     ensures { IfOk result (λ drafter. drafter ≡ seat) }
 {
     if owes(coming.sheets, seat, &coming_round(coming)?) {
@@ -49,7 +49,7 @@ pub(crate) fn drafter_in(coming: &Coming, seat: Seat) -> Result<Seat, MovesFault
 /// Returns the seat if its own sheet is to be looked at, and `None` otherwise. The errors are
 /// those of `drafter_in`.
 pub(crate) fn drafter_if(
-    coming: &Coming,
+    coming: &Position,
     drafted: bool,
     seat: Seat,
 ) -> Result<Option<Seat>, MovesFault>

@@ -8,7 +8,7 @@ use crate::hex_sides::push_sides;
 use board::Board;
 use board_state::{OnMap, same_hex, slots};
 use desk_base::Piece::{Bytes, Column, Count, Number, Right, Words};
-use desk_base::{Coming, fill, push};
+use desk_base::{Position, fill, push};
 use desk_may::board_now;
 use forced_purchase::Operator;
 use foresight::{Draft, RoundAhead};
@@ -38,16 +38,17 @@ enum Ground {
 /// The column in front of the tokens of a stop.
 const TOKENS: usize = 21;
 
-/// Returns a hex as text, at the head of the first turn of the coming round, or at the end of the
+/// Returns a hex as text, at the start of the first turn of the coming round, or at the end of the
 /// game. Fails only if allocation fails.
-pub(crate) fn hex_text(alloc: Global, coming: Coming, hex: Hex) -> Result<Vec<u8>, AllocError>
+pub(crate) fn hex_text(alloc: Global, coming: Position, hex: Hex) -> Result<Vec<u8>, AllocError>
     requires sound { IsSound coming.history }
     requires seats { coming.history.seats ≡ length (players_of coming.sheets.now) }
 {
-    let Coming {
+    let Position {
         sheets,
         history,
         end,
+        ..
     } = coming;
     let End::Awaiting(round @ Round::Operating { .. }) = end else {
         return text_of(alloc, sheets, &history, hex);

@@ -25,7 +25,7 @@ const VALUES: usize = 18;
 /// The column of the price of a token.
 const PRICE: usize = 15;
 
-/// Returns what a company may lay and where it may place its next token, at the head of its orders
+/// Returns what a company may lay and where it may place its next token, at the start of its orders
 /// or after those drafted, as text. `from` is the place in the list of the event that begins the
 /// round. The error is `Memory`.
 pub(crate) fn lay_text<P: Progress>(

@@ -11,7 +11,7 @@ use crate::questions::MayForm;
 use crate::trials::seat_named;
 use certs::Holdings;
 use desk_base::Piece::{Bytes, Count, Number};
-use desk_base::{Coming, Piece, fill, push_wrapped_lines};
+use desk_base::{Piece, Position, fill, push_wrapped_lines};
 use desk_dues::next_train_text;
 use desk_may::{
     push_lines_of_operating, push_lines_of_turn, push_of_opening, push_of_operating, push_of_stock,
@@ -24,12 +24,12 @@ use sheets::Sheets;
 use std::alloc::{AllocError, Global};
 use tables::{Round, Seat, certificate_limit};
 
-/// Returns what the player with this name may do in the coming round, at the head of their turn, or
-/// of their companies' orders. The error says that no player has that name, that the game is over
-/// or that they have no sheet for the round, or is `Memory`.
+/// Returns what the player with this name may do in the coming round, at the start of their turn,
+/// or of their companies' orders. The error says that no player has that name, that the game is
+/// over or that they have no sheet for the round, or is `Memory`.
 pub(crate) fn may_text(
     alloc: Global,
-    coming: Coming,
+    coming: Position,
     player: &[u8],
     form: MayForm,
 ) -> Result<Vec<u8>, MovesFault>
@@ -52,7 +52,7 @@ pub(crate) fn may_text(
 fn push_round(
     alloc: Global,
     out: &mut Vec<u8>,
-    coming: Coming,
+    coming: Position,
     round: Round,
     seat: Seat,
     drafter: Option<Seat>,
@@ -74,12 +74,12 @@ fn push_round(
     }
 }
 
-/// Adds what a player may do at the head of their first turn of an opening or a stock round, or
+/// Adds what a player may do at the start of their first turn of an opening or a stock round, or
 /// after those lines of it that are drafted.
 fn push_turn(
     alloc: Global,
     out: &mut Vec<u8>,
-    coming: Coming,
+    coming: Position,
     round: Round,
     seat: Seat,
     drafter: Option<Seat>,
@@ -91,7 +91,7 @@ fn push_turn(
     ensures { let before = coming.entry in lines ≡ true → OnOk result (AddsTurnLines
         drafter before.sheets.now before.history round seat out.old.items out.new.items) }
 {
-    let Coming {
+    let Position {
         sheets,
         history,
         ..
@@ -150,7 +150,7 @@ fn turn_in(
 fn push_operating(
     alloc: Global,
     out: &mut Vec<u8>,
-    coming: Coming,
+    coming: Position,
     round: Round,
     seat: Seat,
     drafter: Option<Seat>,
@@ -161,7 +161,7 @@ fn push_operating(
     ensures { let before = coming.entry in lines ≡ true → OnOk result (AddsOperatingLines
         before.sheets.now drafter round seat before.history out.old.items out.new.items) }
 {
-    let Coming {
+    let Position {
         sheets,
         history,
         ..

@@ -1,5 +1,5 @@
-//! What is asked, and where: at the head of a turn of the coming round, after all sheets or after a
-//! named round.
+//! What is asked, and where: at the start of a turn of the coming round, after all sheets or after
+//! a named round.
 ghost use Rattle.std.specs.Prelude.{◌≡◌, IfOk, length, true};
 ghost use Rattle.desk_moves.specs.Answers.{Answers, AreBestOf, AreLaysOf, IsAnswer, are_lines};
 ghost use Rattle.desk_moves.specs.Coming.{AreOrdersIn};
@@ -13,7 +13,7 @@ use crate::hex_text::hex_text;
 use crate::lay_text::lay_text;
 use crate::line_text::line_text;
 use crate::may_text::may_text;
-use desk_base::{Coming, coming_in};
+use desk_base::{Moment, Position, position_at};
 use desk_may::Progress;
 use foresight::{Ahead, Draft, OrdersAhead, RoundAhead};
 use map_tables::Hex;
@@ -89,14 +89,14 @@ fn answer_in<P: Progress>(
 ) -> Result<Vec<u8>, MovesFault>
     ensures { IfOk result (λ text. IsAnswer sheets.now after question.entry text.items) }
 {
-    let coming = coming_in(alloc, sheets, after)?;
+    let coming = position_at(alloc, sheets, Moment::after(after))?;
     answer_by(alloc, coming, question, progress)
 }
 
 /// Returns the answer for a game before a coming round.
 fn answer_by<P: Progress>(
     alloc: Global,
-    coming: Coming,
+    coming: Position,
     question: Question,
     progress: &mut P,
 ) -> Result<Vec<u8>, MovesFault>
@@ -112,10 +112,10 @@ fn answer_by<P: Progress>(
     }
 }
 
-/// Returns the best runs of a company at the head of its orders.
+/// Returns the best runs of a company at the start of its orders.
 fn answer_best(
     alloc: Global,
-    coming: Coming,
+    coming: Position,
     company: Company,
     trains: &[Kind],
 ) -> Result<Vec<u8>, MovesFault>
@@ -128,10 +128,10 @@ fn answer_best(
     best_text(alloc, orders.history(), company, trains)
 }
 
-/// Returns what a company may lay and place at the head of its orders, or after those drafted.
+/// Returns what a company may lay and place at the start of its orders, or after those drafted.
 fn answer_lays<P: Progress>(
     alloc: Global,
-    coming: Coming,
+    coming: Position,
     company: Company,
     form: LayForm,
     progress: &mut P,
@@ -151,12 +151,12 @@ fn answer_lays<P: Progress>(
     lay_text(alloc, orders, from, form, progress)
 }
 
-/// Returns the turn of a company with a president, at the head of its orders in the coming round,
+/// Returns the turn of a company with a president, at the start of its orders in the coming round,
 /// or after those of the sheet that is looked at. The error says why it has none there, or is
 /// `Memory`.
 fn orders_in<'a>(
     alloc: Global,
-    coming: Coming<'a>,
+    coming: Position<'a>,
     company: Company,
     drafter: Option<Seat>,
 ) -> Result<OrdersAhead<'a>, MovesFault>

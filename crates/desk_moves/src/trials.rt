@@ -11,7 +11,7 @@ ghost use Rattle.sheets.specs.File.{players_of};
 use crate::coming::coming_round;
 use crate::fault::{MovesFault, NoAnswer};
 use desk_base::Piece::{Bytes, Words};
-use desk_base::{coming_in, owes, push};
+use desk_base::{Moment, owes, position_at, push};
 use foresight::TrialFile;
 use report::name;
 use sheets::{Sheets, collect};
@@ -51,7 +51,7 @@ fn awaited(alloc: Global, sheets: &Sheets, players: &[&str]) -> Result<Round, Mo
 
 /// Returns the coming round. Fails if the game is over.
 fn round_to_come(alloc: Global, sheets: &Sheets) -> Result<Round, MovesFault> {
-    let coming = coming_in(alloc, sheets, None)?;
+    let coming = position_at(alloc, sheets, Moment::Last)?;
     coming_round(&coming)
 }
 
