@@ -1,2 +1,4 @@
+mod BulletinLemmas
 mod DueLemmas
 pub mod RevenueLemmas
+mod WorthLemmas

@@ -1,6 +1,6 @@
 -- What tells an order file from another: how many lines it has, and the checksum of 32 bits that
--- other programs name `crc32`. For that a text is divided, bit by bit, by a polynomial over two
--- elements, and what is left is the checksum. The bits of each byte are taken from the lowest on, so
+-- other programs name `crc32`. For that a text is divided, bit by bit, by a polynomial whose
+-- coefficients are 0 or 1, and what is left is the checksum. The bits of each byte are taken from the lowest on, so
 -- the polynomial stands with its bits reversed: 0xedb88320 is x to the power of 32, 26, 23, 22, 16,
 -- 12, 11, 10, 8, 7, 5, 4, 2, 1 and 0, without the first.
 use Rattle.std.specs.Prelude.{ℕ, ◌+◌, ◌/◌, ◌%◌, ◌==◌, Bool, false, not, if◌then◌else◌, bit_xor, List}

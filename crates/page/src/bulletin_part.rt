@@ -1,16 +1,14 @@
 //! The bulletin of a round: its turns as its players read them, and a statement of what they have
 //! after it; and the same on a page.
-ghost use Rattle.std.specs.Prelude.{IfErr, None, OnOk, Some};
+ghost use Rattle.std.specs.Prelude.{IfErr, OnOk};
 ghost use Rattle.desk_base.specs.Played.{HasNoRound, IsRoundFault};
-ghost use Rattle.rounds.specs.Play.{IsTheGame};
 ghost use Rattle.sheets.specs.File.{IsAccepted};
 
-use desk_base::{DeskFault, Stood, play_behind, stood_at_last, stood_now};
+use desk_base::{DeskFault, Stood, played_round};
 use desk_round::turns;
 use desk_state::statement;
 use markup::PagePiece::{Round as Named, Words};
 use markup::{Tag, Writer, begin_section};
-use rounds::{Game, play};
 use sheets::{Sheets, collect};
 use std::alloc::{AllocError, Global};
 use tables::Round;
@@ -34,6 +32,7 @@ pub fn bulletin(
 }
 
 /// Returns the bulletin of a round of the game of some sheets.
+#[tactic(auto, using(crate::proofs::BulletinLemmas::has_bulletin))]
 fn bulletin_by(
     alloc: Global,
     sheets: &Sheets,
@@ -42,52 +41,14 @@ fn bulletin_by(
 ) -> Result<Vec<u8>, DeskFault>
     ensures { IfErr result (IsRoundFault sheets.now asked) }
 {
-    match asked {
-        Some(round) => bulletin_behind(alloc, sheets, round, due),
-        None => bulletin_at_last(alloc, sheets, due),
-    }
-}
-
-/// Returns the bulletin of a round of the game of some sheets.
-#[tactic(auto, using(desk_base::proofs::PlayedLemmas::shows_behind, desk_base::proofs::PlayedLemmas::has_one_behind))]
-fn bulletin_behind(
-    alloc: Global,
-    sheets: &Sheets,
-    round: Round,
-    due: &str,
-) -> Result<Vec<u8>, DeskFault>
-    ensures { IfErr result (IsRoundFault sheets.now (Some round)) }
-{
-    // A law, which does nothing when it runs.
-    rounds::laws::rounds_only_add();
-    let play = play_behind(alloc, sheets, round)?;
-    match stood_now(&play) {
-        Some(stood) => bulletin_of(alloc, &stood, due),
-        None => Err(DeskFault::Round),
-    }
-}
-
-/// Returns the bulletin of the last round of the game of some sheets.
-fn bulletin_at_last(alloc: Global, sheets: &Sheets, due: &str) -> Result<Vec<u8>, DeskFault>
-    ensures { IfErr result (IsRoundFault sheets.now None) }
-{
-    let game = play(alloc, sheets)?;
-    bulletin_of_game(alloc, &game, due)
-}
-
-/// Returns the bulletin of the last round of a game.
-#[tactic(auto, using(desk_base::proofs::PlayedLemmas::none_at_last))]
-fn bulletin_of_game(alloc: Global, game: &Game, due: &str) -> Result<Vec<u8>, DeskFault>
-    requires { IsTheGame game.now }
-    ensures { IfErr result (IsRoundFault game.now.file None) }
-{
-    bulletin_of(alloc, &stood_at_last(game), due)
+    let its = played_round(alloc, sheets, asked)?;
+    bulletin_of(alloc, &its.position.stood(), due)
 }
 
 /// Returns the bulletin of the last round of a game at a moment: its turns, and then the statement.
 /// Fails with `Round` if no round has been played.
 #[tactic(auto, using(desk_round::proofs::RoundParts::last_has_turns))]
-pub(crate) fn bulletin_of(alloc: Global, stood: &Stood, due: &str) -> Result<Vec<u8>, DeskFault>
+fn bulletin_of(alloc: Global, stood: &Stood, due: &str) -> Result<Vec<u8>, DeskFault>
     ensures { IfErr result (HasNoRound stood.now.history.now.events) }
 {
     let Some(round) = stood.history.now().round() else {
@@ -114,16 +75,11 @@ pub(crate) fn put_bulletin(out: &mut Writer, round: Option<Round>, text: &[u8]) 
     match round {
         Some(round) => {
             out.element(Tag::H3, &[Words("Bulletin of "), Named(round)]);
-            put_told(out, text);
+            out.begin_as(Tag::Preformatted, "told");
+            out.text(text);
+            out.end();
         }
         None => out.element(Tag::Paragraph, &[Words("No round has been played.")]),
     }
-    out.end();
-}
-
-/// Adds a text as printed.
-fn put_told(out: &mut Writer, text: &[u8]) {
-    out.begin_as(Tag::Preformatted, "told");
-    out.text(text);
     out.end();
 }

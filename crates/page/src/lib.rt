@@ -9,7 +9,8 @@
 //! `games/page/` test the layout.
 //!
 //! The definitions, in `specs/`: `Checksum` (of the bytes of a file), `Due` (the umpire's words on
-//! when sheets are due), `Revenue` (what a company earned in a round).
+//! when sheets are due), `WorthHistory` (worths and prices after each round), `ChartToken`,
+//! `Phases`, `Revenue` (what a company earned in a round), `ShownRows` (the rows of the tables).
 //!
 //! The page of an order file in memory, `FIRST`:
 //!
@@ -21,37 +22,38 @@
 //! ```
 //!
 //! Reading order: `worth_history` (the game round by round), `checksum`, `due`, `style`,
-//! `bulletin_part`, `phases_part`, `result_part`, `players_part`, `companies_part`, `revenue_part`,
-//! `status_part`, `whole_page` (`page`), `all_tiles` (`tile_sheet`).
+//! `bulletin_part`, `phases_part`, `result_part`, `shown_rows`, `tables_part` (players, companies,
+//! privates and trains), `revenue_part`, `status_part`, `whole_page` (`page`), `all_tiles`
+//! (`tile_sheet`).
 #![tactic(auto)]
 
 mod all_tiles;
 mod bulletin_part;
 mod checksum;
-mod companies_part;
 mod due;
 mod phases_part;
-mod players_part;
 mod result_part;
 mod revenue_part;
+mod shown_rows;
 mod status_part;
 mod style;
+mod tables_part;
 mod whole_page;
 mod worth_history;
 
 pub use all_tiles::tile_sheet;
 pub use bulletin_part::bulletin;
 pub use checksum::{Source, source_of};
-pub use companies_part::{
-    begin_owners, begin_trains, name_of, put_kind, put_owner, put_square_words, put_train_codes,
-    put_waiting_words,
-};
 pub use due::{due_shown, due_told};
+pub use page_ahead::{
+    Column, Table, begin_table_of, name_of, put_cell_in, put_cells, put_words_of,
+};
 pub use phases_part::colours_of;
-pub use players_part::{FIGURES, Figure, figure_of, put_codes};
 pub use result_part::put_result;
 pub use revenue_part::put_revenue;
+pub use shown_rows::{players_shown, privates_shown, roster_shown, trains_shown};
 pub use status_part::{put_links, put_names, put_next, put_skip, put_source, put_train_on_sale};
 pub use style::{STYLE, STYLE_OF_DUE};
+pub use tables_part::{FIGURES, PRIVATES, TRAINS, put_row, put_table};
 pub use whole_page::{page, page_to_hexes, players_of, tokens_of};
-pub use worth_history::{entry_of, thinned};
+pub use worth_history::{entries_of, thinned};

@@ -1,4 +1,6 @@
 //! The phases, each with its limits and effects.
+ghost use Rattle.std.specs.Prelude.{◌≡◌};
+ghost use Rattle.page.specs.Phases.{colours_of};
 
 use history::History;
 use markup::PagePiece::{Count, Number, Words};
@@ -6,13 +8,13 @@ use markup::{Tag, Writer, begin_row, begin_table, put_caption, put_head, put_row
 use tables::{Kind, Money, limit, rounds_in_set, rusts, same_kind};
 
 /// Returns the colours of the tiles that may be laid in a phase.
-pub fn colours_of(phase: Kind) -> &'static str {
-    if phase.index() < Kind::Three.index() {
-        "yellow"
-    } else if phase.index() < Kind::Five.index() {
-        "yellow, green"
-    } else {
-        "yellow, green, brown"
+pub fn colours_of(phase: Kind) -> &'static str
+    ensures { result.now ≡ colours_of phase }
+{
+    match phase {
+        Kind::Two => "yellow",
+        Kind::Three | Kind::Four => "yellow, green",
+        Kind::Five | Kind::Six | Kind::Diesel => "yellow, green, brown",
     }
 }
 

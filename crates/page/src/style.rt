@@ -12,7 +12,9 @@ pub const STYLE: &str = "\n\
     --lH:#c66410;--lM:#5a2a6e;\n\
     --ink:#111;--paper:#fff;--rule:#bbb;--soft:#555;--band:#f1f1ee;color-scheme:light dark}\n\
     @media screen and (prefers-color-scheme:dark){:root{--ink:#eee;--paper:#1b1c1e;\
-    --rule:#555;--soft:#aaa;--band:#2a2b2e}}\n\
+    --rule:#555;--soft:#aaa;--band:#2a2b2e;\
+    --lP:#3b9b63;--lN:#a4a4a8;--lC:#ff5468;--lB:#5b90f4;--lO:#a9dcf2;--lE:#ffe600;\
+    --lH:#f0913a;--lM:#ad79c0}}\n\
     body{margin:0 auto;max-width:1340px;padding:12px 16px;color:var(--ink);\
     background:var(--paper);font:15px/1.35 Arial,Helvetica,'Liberation Sans',sans-serif}\n\
     header{display:flex;flex-wrap:wrap;gap:4px 20px;align-items:baseline;\
@@ -61,7 +63,9 @@ pub const STYLE: &str = "\n\
     .n{fill:#fff;font-size:11px;font-weight:bold}\n\
     .p{font-size:13px;font-weight:bold}.pw{font-size:14px;font-weight:bold;fill:#fff}\
     .f{font-size:14px}\n\
-    .m{font-size:15px;font-weight:bold}.a{font-size:11px}.c{font-size:12px}.i{font-size:11px}\
+    .m{font-size:15px;font-weight:bold}.a,.c,.i{font-size:11px}\
+    .nm{font-size:10.5px;font-weight:bold}\
+    .c,.i,.nm{stroke:#fff;stroke-width:3px;stroke-linejoin:round;paint-order:stroke}\
     .j{font-size:13px;font-weight:bold}\n\
     .o{fill:#fff;stroke:#000}.x{fill:#000}\n\
     #fg,#fb,#fe,#fr,.fg,.fb,.fe,.fr{fill:none;stroke-width:2}\n\
@@ -100,6 +104,10 @@ pub const STYLE: &str = "\n\
     #ranks{min-width:min(31em,100%)}\
     .plot{min-width:560px}th[scope=row]{position:sticky;left:0;background:var(--paper)}\
     .sum th[scope=row]{background:var(--band)}}\n\
+    @media screen and (prefers-color-scheme:dark){svg.chart,.plot{background:var(--paper)}\
+    .chart text,.plot text{fill:#eee}.cw{fill:#26272a}.chart .cy{fill:#5c5413}\
+    .chart .co{fill:#7a4a12}.chart .cb{fill:#5e3a1c}#par{stroke:#eee}.grid{stroke:#444}\
+    .chart .mv{stroke:#ff4fa8}.mh{fill:#ff4fa8}}\n\
     @media screen and (max-width:700px){.on{display:none}.key{display:block}\
     svg.map{min-width:1120px}svg.chart{min-width:960px}.plot{min-width:700px}\
     section{background:linear-gradient(90deg,var(--paper) 30%,transparent) 0 0/40px 100% local,\

@@ -1,37 +1,36 @@
 //! The page of a game.
 ghost use Rattle.std.specs.Prelude.{◌≡◌, IfErr, IfOk, OnOk};
-ghost use Rattle.desk_base.specs.Refusal.{HasNoState, IsOfGame};
+ghost use Rattle.desk_base.specs.Played.{IsMomentFault, moment_after};
 ghost use Rattle.markup.specs.Reading.{IsWellFormed};
-ghost use Rattle.page.specs.ChartToken.{chart_token};
+ghost use Rattle.page.specs.ChartToken.{chart_token, tokens_of};
 ghost use Rattle.sheets.specs.File.{IsAccepted};
 
 use crate::bulletin_part::{bulletin_text, put_bulletin};
 use crate::checksum::{Source, source_of};
-use crate::companies_part::{put_companies, put_owners, put_trains};
 use crate::due::{due_shown, due_told};
 use crate::phases_part::put_phases;
-use crate::players_part::put_players;
 use crate::result_part::put_result;
 use crate::revenue_part::put_revenue;
 use crate::status_part::{self, LINKS};
 use crate::style::STYLE;
-use crate::worth_history::{play_to, thinned};
-use desk_base::{DeskFault, Stood, stood_now};
-use desk_state::{all_in_order, before_in_stack};
+use crate::tables_part::{PageRows, put_companies, put_players, put_stock};
+use crate::worth_history::{entries_of, thinned};
+use desk_base::{DeskFault, Moment, Stood, position_at};
+use desk_cells::before_in_stack;
 use history::History;
 use markup::PagePiece::{Round as Named, Words};
 use markup::{Attr, Tag, Writer, begin_plain_section, begin_section};
 use page_ahead::{Panel, STYLE_OF_PANEL, put_panel};
-use page_charts::{ChartToken, ChartTokens, Entry, Players, put_chart, put_history};
+use page_charts::{ChartToken, ChartTokens, Players, put_chart, put_history};
 use page_map::{
     Scene, begin_map, end_map, moved_in_last_round, put_hexes, put_key, put_labels, put_laid,
     put_tiles_left, square_before_round,
 };
 use page_routes::{Routes, last_routes, put_lines, put_table, put_tags};
-use rounds::{End, Play};
+use rounds::End;
 use sheets::{Sheets, collect};
 use std::alloc::{AllocError, Global};
-use tables::{COMPANIES, Company, Round};
+use tables::{Company, Round};
 
 /// Which page is made.
 #[derive(Clone, Copy)]
@@ -59,7 +58,6 @@ struct Told<'a> {
 ///
 /// Fails with `File` if the file is refused, with `Round` if the round was not played, and with
 /// `Memory` if allocation fails.
-#[tactic(auto, using(desk_base::proofs::Refusals::no_state_where_it_fails, desk_base::proofs::Refusals::no_state_of_game))]
 pub fn page(
     alloc: Global,
     file: &[u8],
@@ -68,7 +66,7 @@ pub fn page(
 ) -> Result<Vec<u8>, DeskFault>
     ensures accepted { OnOk result (IsAccepted file.now) }
     ensures well_formed { IfOk result (λ page. IsWellFormed page.items) }
-    ensures fault { IfErr result (λ fault. HasNoState fault file.now) }
+    ensures fault { IfErr result (IsMomentFault file.now (moment_after asked)) }
 {
     let out = begun(alloc, file, asked, due, Form::Whole)?;
     Ok(out.finish()?)
@@ -84,13 +82,13 @@ pub fn page_to_hexes(
     style: &'static str,
 ) -> Result<Writer, DeskFault>
     ensures accepted { OnOk result (IsAccepted file.now) }
-    ensures fault { IfErr result (λ fault. HasNoState fault file.now) }
+    ensures fault { IfErr result (IsMomentFault file.now (moment_after asked)) }
 {
     begun(alloc, file, asked, due, Form::ToHexes(style))
 }
 
 /// Returns the page of the game of an order file, not yet ended.
-#[tactic(auto, using(desk_base::proofs::Refusals::no_state_where_it_fails, desk_base::proofs::Refusals::no_state_of_game))]
+#[tactic(auto, using(desk_base::proofs::Refusals::none_where_it_fails, desk_base::proofs::PlayedLemmas::no_moment_where_it_fails))]
 fn begun(
     alloc: Global,
     file: &[u8],
@@ -99,7 +97,7 @@ fn begun(
     form: Form,
 ) -> Result<Writer, DeskFault>
     ensures accepted { OnOk result (IsAccepted file.now) }
-    ensures fault { IfErr result (λ fault. HasNoState fault file.now) }
+    ensures fault { IfErr result (IsMomentFault file.now (moment_after asked)) }
 {
     let sheets = collect(alloc, file)?;
     let due = due_shown(alloc, due)?;
@@ -119,62 +117,36 @@ fn page_of(
     asked: Option<Round>,
     told: Told,
 ) -> Result<Writer, DeskFault>
-    ensures { IfErr result IsOfGame }
+    ensures { IfErr result (IsMomentFault sheets.now (moment_after asked)) }
 {
-    let played = play_to(alloc, sheets, asked)?;
-    page_of_play(alloc, &played.play, told, played.entries.as_slice())
+    let position = position_at(alloc, sheets, Moment::after(asked))?;
+    Ok(page_of_stood(alloc, &position.stood(), told)?)
 }
 
-/// Returns the page of a game played up to here, with its history round by round.
-fn page_of_play(
-    alloc: Global,
-    play: &Play,
-    told: Told,
-    entries: &[Entry],
-) -> Result<Writer, DeskFault>
-    ensures { IfErr result IsOfGame }
-{
-    match stood_now(play) {
-        Some(stood) => Ok(page_of_stood(alloc, &stood, told, entries)?),
-        None => Err(DeskFault::Round),
-    }
-}
-
-/// Returns the page of a game at a moment, with its history round by round.
-fn page_of_stood(
-    alloc: Global,
-    stood: &Stood,
-    told: Told,
-    entries: &[Entry],
-) -> Result<Writer, AllocError> {
+/// Returns the page of a game at a moment, not yet ended.
+fn page_of_stood(alloc: Global, stood: &Stood, told: Told) -> Result<Writer, AllocError> {
     let bulletin = bulletin_text(alloc, stood)?;
     let scene = Scene::of(stood);
     let told = Told {
-        form: told.form,
-        source: told.source,
         due: due_told(scene.owe.contains(&true), told.due),
         bulletin: bulletin.as_slice(),
+        ..told
     };
-    page_text(alloc, &scene, told, entries)
+    page_text(alloc, &scene, told)
 }
 
-/// Returns the page of what a scene shows, with the game's history round by round.
-fn page_text(
-    alloc: Global,
-    scene: &Scene,
-    told: Told,
-    entries: &[Entry],
-) -> Result<Writer, AllocError> {
+/// Returns the page of what a scene shows, not yet ended.
+fn page_text(alloc: Global, scene: &Scene, told: Told) -> Result<Writer, AllocError> {
     let history = scene.history;
     let routes = last_routes(alloc, history)?;
-    let order = all_in_order(alloc, history)?;
-    let entries = thinned(alloc, entries)?;
+    let entries = entries_of(alloc, history)?;
+    let entries = thinned(alloc, entries.as_slice())?;
     let mut out = match told.form {
         Form::Whole => Writer::page(alloc),
         Form::ToHexes(_) => Writer::scripted_page(alloc),
     };
     begin_page(&mut out, scene, told);
-    put_result(&mut out, scene);
+    put_result(alloc, &mut out, scene)?;
     put_ahead(alloc, &mut out, scene, told)?;
     status_part::put_status(&mut out, scene, told.source);
     put_map_section(alloc, &mut out, scene, &routes)?;
@@ -183,7 +155,7 @@ fn page_text(
     put_chart(&mut out, &tokens_of(history));
     out.end();
     put_history(&mut out, &players_of(scene), entries.as_slice());
-    put_tables(alloc, &mut out, scene, order.as_slice())?;
+    put_tables(alloc, &mut out, scene)?;
     put_tiles_left(&mut out, history);
     put_laid(&mut out, history);
     out.begin_as(Tag::Anchor, "back");
@@ -208,12 +180,20 @@ pub fn players_of<'a>(scene: &Scene<'a>) -> Players<'a>
 }
 
 /// Returns the tokens on the stock chart, in the order of the roster.
-pub fn tokens_of(history: &History) -> ChartTokens {
-    let mut tokens = [None; COMPANIES];
-    for &company in &Company::ALL {
-        tokens[company.index()] = token_of(history, company);
-    }
-    tokens
+#[tactic(auto, unfolding(crate::specs::ChartToken::tokens_of))]
+pub fn tokens_of(history: &History) -> ChartTokens
+    ensures { result ≡ tokens_of history.now.events }
+{
+    [
+        token_of(history, Company::Pennsylvania),
+        token_of(history, Company::NewYorkCentral),
+        token_of(history, Company::CanadianPacific),
+        token_of(history, Company::BaltimoreOhio),
+        token_of(history, Company::ChesapeakeOhio),
+        token_of(history, Company::Erie),
+        token_of(history, Company::NewHaven),
+        token_of(history, Company::BostonMaine),
+    ]
 }
 
 /// Returns the token of a company on the stock chart, if it is there.
@@ -252,9 +232,7 @@ fn put_ahead(alloc: Global, out: &mut Writer, scene: &Scene, told: Told) -> Resu
         return Ok(());
     };
     let panel = Panel {
-        players: players_of(scene),
-        owe: scene.owe,
-        history: scene.history,
+        scene,
         round,
         due: told.due,
     };
@@ -301,19 +279,14 @@ fn put_map_section(
 }
 
 /// Adds the tables. Fails only if allocation fails.
-fn put_tables(
-    alloc: Global,
-    out: &mut Writer,
-    scene: &Scene,
-    order: &[Company],
-) -> Result<(), AllocError> {
+fn put_tables(alloc: Global, out: &mut Writer, scene: &Scene) -> Result<(), AllocError> {
+    let rows = PageRows::of(alloc, scene)?;
     begin_section(out, "tables", "Tables", "");
-    put_players(out, scene);
-    put_companies(out, scene, order);
+    put_players(out, scene, &rows);
+    put_companies(out, scene, &rows);
     put_revenue(alloc, out, scene.history)?;
     out.begin_as(Tag::Division, "pair");
-    put_owners(out, scene);
-    put_trains(out, scene);
+    put_stock(out, scene, &rows);
     put_phases(out, scene.history);
     out.end();
     out.end();

@@ -1,94 +1,137 @@
-//! What each player was worth and what each share cost after each round, recorded as the game is
-//! played.
-ghost use Rattle.std.specs.Prelude.{IfErr};
-ghost use Rattle.desk_base.specs.Refusal.{IsOfGame};
+//! What each player was worth and what each share cost after each round.
+ghost use Rattle.std.specs.Prelude.{◌≡◌, ◌≤◌, ◌++◌, IfOk, OnOk, length};
+ghost use Rattle.page.specs.WorthHistory.{entries_of, entry_of, game_after, noted, prices_in};
+ghost use Rattle.page.specs.WorthHistory.{share_price, worth_if, worths_in};
 
-use best_run::Search;
-use desk_base::DeskFault;
-use history::History;
+use history::{Event, GameView, History, Walk};
+use page_ahead::price_on;
 use page_charts::Entry;
 use report::player_worth;
-use rounds::{Play, Step};
-use sheets::Sheets;
 use std::alloc::{AllocError, Global};
-use tables::{COMPANIES, Company, PLAYERS_MOST, Round, Seat, price};
+use tables::{Amount, Company, Money, PerCompany, PerSeat, Round, Seat};
 
-/// A game played up to a round, with an entry for each round.
-#[derive(Drop)]
-pub(crate) struct Played<'a> {
-    pub(crate) play: Play<'a>,
-    pub(crate) entries: Vec<Entry>,
+/// Returns the figures of a game after each of its rounds, in order: where the next one begins, and
+/// at the end of the game. Fails only if allocation fails.
+pub fn entries_of(alloc: Global, history: &History) -> Result<Vec<Entry>, AllocError>
+    ensures { IfOk result (λ entries. entries.items ≡ entries_of history.now) }
+{
+    let mut walk = Walk::along(history.events());
+    entries_along(alloc, history.events(), &mut walk, history.seats())
 }
 
-/// Plays the game of some sheets up to the end of a round, or as far as they go if none is named.
-/// Fails with `Round` if the round was not played, and with `Memory` if allocation fails.
-pub(crate) fn play_to<'a>(
+/// Returns the figures of the game of these events after each of its rounds. The walk is along
+/// them.
+#[tactic(auto, unfolding(crate::specs::WorthHistory::entries_of))]
+fn entries_along(
     alloc: Global,
-    sheets: &'a Sheets<'a>,
-    asked: Option<Round>,
-) -> Result<Played<'a>, DeskFault>
-    ensures { IfErr result IsOfGame }
+    events: &[Event],
+    walk: &mut Walk,
+    seats: usize,
+) -> Result<Vec<Entry>, AllocError>
+    requires { walk.old.events.now ≡ events.now }
+    ensures { IfOk result (λ entries. entries.items
+        ≡ entries_of (record { seats = seats; events = events.now })) }
 {
-    let mut play = Play::start(alloc, sheets)?;
-    let mut search = Search::new(alloc);
     let mut entries = Vec::new(alloc);
-    loop {
-        match play.step(&mut search) {
-            Ok(Step::Played(round)) => {
-                if let Some(history) = play.history() {
-                    note(&mut entries, entry_of(history, round))?;
-                }
-                if asked == Some(round) {
-                    return Ok(Played { play, entries });
-                }
-            }
-            Ok(Step::Ended(_)) => return ended(play, entries, asked),
-            Err(fault) => return Err(DeskFault::from(fault.want_of_memory())),
+    let mut begun = None;
+    for (passed, event) in events.iter().enumerate() {
+        if let Some(round) = event.round() {
+            note_ended(&mut entries, walk, seats, passed, begun)?;
+            begun = Some(round);
         }
     }
+    note_ended(&mut entries, walk, seats, events.len(), begun)?;
+    Ok(entries)
 }
 
-/// Adds an entry.
-fn note(entries: &mut Vec<Entry>, entry: Entry) -> Result<(), AllocError> {
-    entries.push(entry)?;
+/// Adds the entry of the game after this many events of a walk, where a round has ended, if one had
+/// begun.
+fn note_ended(
+    entries: &mut Vec<Entry>,
+    walk: &mut Walk,
+    seats: usize,
+    passed: usize,
+    begun: Option<Round>,
+) -> Result<(), AllocError>
+    requires { passed ≤ length walk.old.events.now }
+    ensures walk { walk.new.events.now ≡ walk.old.events.now }
+    ensures noted { OnOk result (entries.new.items ≡ entries.old.items
+        ++ noted (game_after seats walk.old.events.now passed) begun) }
+{
+    walk.go(passed);
+    note(entries, &walk.view(seats), begun)
+}
+
+/// Adds the entry of a game at the end of a round, if one has begun.
+fn note(entries: &mut Vec<Entry>, view: &GameView, begun: Option<Round>) -> Result<(), AllocError>
+    ensures { OnOk result (entries.new.items ≡ entries.old.items ++ noted view.now begun) }
+{
+    if let Some(round) = begun {
+        entries.push(entry_of(view, round))?;
+    }
     Ok(())
 }
 
-/// Returns a game that has ended, or waits for a sheet, unless a requested round was not played.
-fn ended<'a>(
-    play: Play<'a>,
-    entries: Vec<Entry>,
-    asked: Option<Round>,
-) -> Result<Played<'a>, DeskFault>
-    ensures { IfErr result IsOfGame }
+/// Returns the entry of a game at the end of a round.
+fn entry_of(view: &GameView, round: Round) -> Entry
+    ensures { result ≡ entry_of view.now round }
 {
-    match asked {
-        Some(_) => Err(DeskFault::Round),
-        None => Ok(Played { play, entries }),
+    Entry {
+        round,
+        worths: worths_in(view),
+        prices: prices_in(view),
+        phase: view.phase(),
     }
 }
 
-/// Returns the entry of a game after a round.
-pub fn entry_of(history: &History, round: Round) -> Entry {
-    let view = history.now();
-    let mut worths = [0; PLAYERS_MOST];
-    for (number, worth) in worths.iter_mut().enumerate() {
-        if number < history.seats() && number < PLAYERS_MOST {
-            *worth = player_worth(&view, Seat::at(number));
-        }
+/// Returns what each player is worth, in dollars, by their seats; 0 for an empty seat.
+#[tactic(auto, unfolding(crate::specs::WorthHistory::worths_in))]
+fn worths_in(view: &GameView) -> PerSeat<Money>
+    ensures { result ≡ worths_in view.now }
+{
+    [
+        worth_if(view, Seat(0)),
+        worth_if(view, Seat(1)),
+        worth_if(view, Seat(2)),
+        worth_if(view, Seat(3)),
+        worth_if(view, Seat(4)),
+        worth_if(view, Seat(5)),
+    ]
+}
+
+/// Returns what the player of a seat is worth; 0 for an empty seat.
+fn worth_if(view: &GameView, seat: Seat) -> Money
+    ensures { result ≡ worth_if view.now seat }
+{
+    if seat.index() < view.seats() {
+        player_worth(view, seat)
+    } else {
+        0
     }
-    let mut prices = [None; COMPANIES];
-    for &company in &Company::ALL {
-        if let Some(square) = view.square(company) {
-            prices[company.index()] = Some(price(square));
-        }
-    }
-    Entry {
-        round,
-        worths,
-        prices,
-        phase: history.phase(),
-    }
+}
+
+/// Returns the prices of the companies' shares, in the order of the roster.
+#[tactic(auto, unfolding(crate::specs::WorthHistory::prices_in))]
+fn prices_in(view: &GameView) -> PerCompany<Option<Amount>>
+    ensures { result ≡ prices_in view.now.events }
+{
+    [
+        share_price(view, Company::Pennsylvania),
+        share_price(view, Company::NewYorkCentral),
+        share_price(view, Company::CanadianPacific),
+        share_price(view, Company::BaltimoreOhio),
+        share_price(view, Company::ChesapeakeOhio),
+        share_price(view, Company::Erie),
+        share_price(view, Company::NewHaven),
+        share_price(view, Company::BostonMaine),
+    ]
+}
+
+/// Returns the price of a company's share, if its token is on the chart.
+fn share_price(view: &GameView, company: Company) -> Option<Amount>
+    ensures { result ≡ share_price view.now.events company }
+{
+    price_on(view.square(company))
 }
 
 /// The most rounds that the page shows.

@@ -1,2 +1,2 @@
-pub mod Leaders
+pub mod CellWords
 pub mod Runners

@@ -1,29 +1,30 @@
--- Who runs next: the companies in operating order, with what each has and what it last earned. And
--- what a company has to pay that must buy a train.
-use Rattle.std.specs.Prelude.{ℕ, Bool, true, false, if◌then◌else◌, List, Option, option_map, map, pos}
+-- What is listed before a round: the companies that operate, in operating order, before an operating
+-- round; the privates before an opening round; all companies before a stock round. And what a company
+-- has to pay that must buy a train.
+use Rattle.std.specs.Prelude.{Bool, true, false, if◌then◌else◌, int_lt, pos, List}
 use Rattle.std.specs.List.{fold}
+use Rattle.desk_cells.specs.Before.{game_before}
 use Rattle.desk_dues.specs.Raised.{raised_at_most_by}
-use Rattle.desk_state.specs.Earnings.{earnings_of}
-use Rattle.events.specs.Event.{party_of_company}
+use Rattle.desk_cells.specs.TableRows.{company_rows, private_rows}
+use Rattle.desk_cells.specs.declared.field.TableRow.{TableRow}
+use Rattle.desk_cells.specs.declared.rows.PlayerRow.{PlayerRow}
 use Rattle.events.specs.declared.event.Event.{Event}
 use Rattle.events.specs.declared.event.Event.TheVariants.{Runs, Withheld}
 use Rattle.forced_purchase.specs.Shortfall.{cheapest, lack_of}
 use Rattle.forced_purchase.specs.declared.operator.Operator.{Operator}
 use Rattle.market.specs.OperatingOrder.{operating_order_of}
-use Rattle.page_ahead.specs.Leaders.{game_before}
 use Rattle.page_ahead.specs.declared.runner_rows.Must.{Must}
-use Rattle.page_ahead.specs.declared.runner_rows.Runner.{Runner}
 use Rattle.purchases.specs.Train.{train_purchase_cost}
-use Rattle.tables.specs.Chart.{price_of}
-use Rattle.tables.specs.Roster.{same_company}
+use Rattle.tables.specs.Roster.{companies, same_company}
 use Rattle.tables.specs.declared.roster.Company.{Company}
+use Rattle.tables.specs.declared.round.Round.{Round}
+use Rattle.tables.specs.declared.round.Round.TheVariants.{Opening, Operating, Stock}
 use Rattle.totals.specs.Bids.{free_cash_of}
-use Rattle.totals.specs.LookBack.{Game, cash_of}
-use Rattle.totals.specs.Shares.{president_of, square_of}
+use Rattle.totals.specs.LookBack.{Game}
 
--- the price of a company's share, if its token is on the chart
-abbrev pub share_price : List Event → Company → Option ℕ
-share_price events company = option_map price_of (square_of events company)
+-- a player may hold one more certificate
+abbrev pub has_room : PlayerRow → Bool
+has_room row = int_lt row.certificates (pos row.limit)
 
 -- whether a company kept what it last earned, after one more event: it has not where it runs, and it
 -- has where it withholds
@@ -36,22 +37,15 @@ kept_then company kept other = kept
 abbrev pub is_kept : Company → List Event → Bool
 is_kept company events = fold (kept_then company) false events
 
--- the row of a company, by the game now and before the last round
-abbrev pub runner_row : Game → Game → Company → Runner
-runner_row game before company = record {
-  company = company;
-  president = president_of game.events company;
-  price = share_price game.events company;
-  price_before = share_price before.events company;
-  round = (earnings_of company game.events).round;
-  dollars = pos (earnings_of company game.events).dollars;
-  is_kept = is_kept company game.events;
-  cash = cash_of game.seats game.events (party_of_company company);
-}
+-- the rows of all companies, in roster order
+unfoldable pub rows_of_all : Game → Game → List TableRow
+rows_of_all game before = company_rows game before companies
 
--- the rows of the companies that operate, in operating order
-abbrev pub runners_of : Game → List Runner
-runners_of game = map (runner_row game (game_before game)) (operating_order_of game.events)
+-- what is listed before a round
+abbrev pub rows_ahead : Game → Round → List TableRow
+rows_ahead game (Operating set number) = company_rows game (game_before game) (operating_order_of game.events)
+rows_ahead game (Opening number) = private_rows game.events
+rows_ahead game (Stock number) = rows_of_all game (game_before game)
 
 -- what a company pays that must buy a train now: the cheapest that is for sale, what it lacks for
 -- that, the cash of its president free of bids, and what the president can raise

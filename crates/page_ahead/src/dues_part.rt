@@ -1,7 +1,8 @@
 //! What falls due for a company: a train that it must buy, and trains that rust.
 
 use crate::panel::Panel;
-use crate::runner_rows::{Must, Runner, must_of};
+use crate::runner_rows::{Must, must_of};
+use desk_cells::CompanyRow;
 use desk_dues::Danger;
 use forced_purchase::Operator;
 use history::TrainSeller;
@@ -14,7 +15,7 @@ use tables::{Money, Seat};
 pub(crate) fn put_dues(
     out: &mut Writer,
     panel: &Panel,
-    row: &Runner,
+    row: &CompanyRow,
     due: (bool, bool),
     danger: Option<Danger>,
 ) {
@@ -23,7 +24,7 @@ pub(crate) fn put_dues(
     if let (true, Some(president)) = (due.0, row.president) {
         if due.1 {
             let company = row.company;
-            let must = must_of(panel.history, Operator { company, president });
+            let must = must_of(panel.scene.history, Operator { company, president });
             put_must(out, panel, president, &must);
         } else {
             out.element(Tag::Bold, &[Words("must buy a train")]);
@@ -103,7 +104,7 @@ fn put_aid(
     }
     out.put(&[
         Words(", "),
-        Name(panel.name(president)),
+        Name(panel.scene.name(president)),
         Words(" adds "),
         Number(lacking),
         Words(", has "),

@@ -1,7 +1,7 @@
 //! Who leads, as a table, and what the last round began.
 
-use crate::leader_rows::Leader;
 use crate::panel::Panel;
+use desk_cells::Leader;
 use history::Event;
 use markup::PagePiece::{Count, Name, Number, Words};
 use markup::{Attr, Tag, Writer, begin_row, begin_table, put_caption, put_row_head};
@@ -23,7 +23,7 @@ pub(crate) fn put_leaders(out: &mut Writer, panel: &Panel, rows: &[Leader]) {
     };
     for row in rows {
         begin_row(out, "");
-        put_ranked(out, row.rank, panel.name(row.seat));
+        put_ranked(out, row.rank, panel.scene.name(row.seat));
         out.begin_as(Tag::Cell, "num");
         out.element(Tag::Bold, &[Number(row.worth)]);
         out.end();

@@ -1,43 +1,26 @@
 //! The panel: by when to send a sheet, who leads, and who runs next or what is for sale.
 
-use crate::leader_rows::{before_round, leaders};
 use crate::leaders_part::{put_begun, put_leaders};
-use crate::runner_rows::runners;
+use crate::runner_rows::rows_ahead;
 use crate::runners_part::put_runners;
 use crate::sale_part::{put_certificates, put_privates_for_sale, put_shares_for_sale};
-use history::History;
+use desk_base::view_behind;
+use desk_cells::{before_round, leaders, player_rows};
+use history::Walk;
 use markup::PagePiece::{Name, Round as Named, Words};
 use markup::{Tag, Writer, begin_plain_section};
-use page_charts::Players;
+use page_map::Scene;
 use std::alloc::{AllocError, Global};
-use tables::{PerSeat, Round, Seat};
+use tables::{Round, Seat};
 
 /// What a panel shows: a game before a round.
 #[derive(Clone, Copy)]
 pub struct Panel<'a> {
-    pub players: Players<'a>,
-    /// Who owes a sheet for the round, by their seats.
-    pub owe: PerSeat<bool>,
-    pub history: &'a History,
+    pub scene: &'a Scene<'a>,
     /// The round that comes next.
     pub round: Round,
     /// When sheets are due, in the umpire's words; empty if they did not say.
     pub due: &'a [u8],
-}
-
-impl<'a> Panel<'a> {
-    /// Returns the name of the player of a seat; no letters for a seat that nobody has.
-    pub(crate) fn name(&self, seat: Seat) -> &'a [u8] {
-        name_in(&self.players, seat.index())
-    }
-}
-
-/// Returns the name of the player of a seat; no letters for a seat that nobody has.
-fn name_in<'a>(players: &Players<'a>, seat: usize) -> &'a [u8] {
-    match players.names.get(seat) {
-        Some(name) => name,
-        None => &[],
-    }
 }
 
 /// Adds the panel. Fails only if allocation fails.
@@ -45,25 +28,40 @@ pub fn put_panel(alloc: Global, out: &mut Writer, panel: &Panel) -> Result<(), A
     begin_plain_section(out, "ahead", "This evening");
     put_bar(out, panel);
     out.begin(Tag::Division);
-    let rows = leaders(alloc, panel.history, panel.players.seats)?;
-    put_leaders(out, panel, rows.as_slice());
-    let events = panel.history.events();
-    put_begun(out, events.get(before_round(events)..).unwrap_or(&[]));
-    if !matches!(panel.round, Round::Operating { .. }) {
-        put_certificates(out, panel);
-    }
+    put_players(alloc, out, panel)?;
     out.end();
     out.begin(Tag::Division);
-    match panel.round {
-        Round::Operating { .. } => {
-            let rows = runners(alloc, panel.history)?;
-            put_runners(alloc, out, panel, rows.as_slice())?;
-        }
-        Round::Opening(_) => put_privates_for_sale(out, panel),
-        Round::Stock(_) => put_shares_for_sale(out, panel),
+    put_listed(alloc, out, panel)?;
+    out.end();
+    out.end();
+    Ok(())
+}
+
+/// Adds who leads, what the last round began, and who may still buy in the next. Fails only if
+/// allocation fails.
+fn put_players(alloc: Global, out: &mut Writer, panel: &Panel) -> Result<(), AllocError> {
+    let Scene { history, seats, .. } = *panel.scene;
+    let events = history.events();
+    let begun = before_round(events);
+    let mut walk = Walk::along(events);
+    let before = view_behind(&mut walk, begun, history.seats());
+    put_leaders(out, panel, leaders(alloc, history, seats)?.as_slice());
+    put_begun(out, events.get(begun..).unwrap_or(&[]));
+    if !matches!(panel.round, Round::Operating { .. }) {
+        let rows = player_rows(alloc, history, &before, seats)?;
+        put_certificates(out, panel, rows.as_slice());
     }
-    out.end();
-    out.end();
+    Ok(())
+}
+
+/// Adds what is listed before the round. Fails only if allocation fails.
+fn put_listed(alloc: Global, out: &mut Writer, panel: &Panel) -> Result<(), AllocError> {
+    let rows = rows_ahead(alloc, panel.scene.history, panel.round)?;
+    match panel.round {
+        Round::Operating { .. } => put_runners(alloc, out, panel, rows.as_slice())?,
+        Round::Opening(_) => put_privates_for_sale(out, panel, rows.as_slice()),
+        Round::Stock(_) => put_shares_for_sale(out, panel, rows.as_slice()),
+    }
     Ok(())
 }
 
@@ -71,7 +69,7 @@ pub fn put_panel(alloc: Global, out: &mut Writer, panel: &Panel) -> Result<(), A
 /// played; and who has priority.
 fn put_bar(out: &mut Writer, panel: &Panel) {
     out.begin_as(Tag::Paragraph, "send");
-    if panel.owe.contains(&true) {
+    if panel.scene.owe.contains(&true) {
         put_awaited(out, panel);
     } else {
         out.begin(Tag::Span);
@@ -84,8 +82,8 @@ fn put_bar(out: &mut Writer, panel: &Panel) {
     out.begin(Tag::Span);
     out.within();
     out.put(&[Words("priority ")]);
-    let priority = panel.history.now().priority();
-    out.element(Tag::Bold, &[Name(panel.name(priority))]);
+    let priority = panel.scene.history.now().priority();
+    out.element(Tag::Bold, &[Name(panel.scene.name(priority))]);
     out.end();
     out.end();
 }
@@ -109,9 +107,9 @@ fn put_awaited(out: &mut Writer, panel: &Panel) {
     out.begin(Tag::Span);
     out.within();
     let mut is_first = true;
-    for number in 0..panel.players.seats {
-        if panel.owe.get(number) == Some(&true) {
-            put_owing(out, is_first, panel.name(Seat::at(number)));
+    for number in 0..panel.scene.seats {
+        if panel.scene.owe.get(number) == Some(&true) {
+            put_owing(out, is_first, panel.scene.name(Seat::at(number)));
             is_first = false;
         }
     }

@@ -1,98 +1,69 @@
-//! Who runs next: the companies in operating order; and what a company pays that must buy a train.
-ghost use Rattle.std.specs.Prelude.{◌≡◌, ◌↔◌, IfOk, IsTrue, map};
+//! What is listed before a round; and what a company pays that must buy a train.
+ghost use Rattle.std.specs.Prelude.{◌≡◌, ◌↔◌, IfOk, IsTrue, option_map};
 ghost use Rattle.operating.specs.MapState.{map_state_now};
 ghost use Rattle.operating.specs.TurnEnd.{IsDue};
-ghost use Rattle.page_ahead.specs.Runners.{is_kept, kept_then, must_of, runner_row, runners_of, share_price};
+ghost use Rattle.tables.specs.Chart.{price_of};
+ghost use Rattle.page_ahead.specs.Runners.{is_kept, kept_then, must_of, rows_ahead, rows_of_all};
 
-use crate::leader_rows::before_round;
 use board::Board;
 use desk_base::view_behind;
+use desk_cells::{TableRow, before_round, company_rows, private_rows};
 use desk_dues::raised_at_most;
-use desk_state::earnings_of;
 use forced_purchase::{Operator, cheapest, lack};
-use history::{Event, GameView, History, Party, TrainSeller, Walk};
+use history::{Event, GameView, History, TrainSeller, Walk};
 use legal_runs::can_run;
 use market::operating_order;
 use purchases::has_trains;
 use std::alloc::{AllocError, Global};
-use tables::{Amount, Company, Kind, Money, Round, Seat, price};
+use tables::{Amount, Company, Kind, Money, Round, Square, price};
 
-/// A company that operates.
-#[derive(Clone, Copy, Debug, PartialEq, Eq)]
-pub struct Runner {
-    pub company: Company,
-    pub president: Option<Seat>,
-    /// The price of its share now, in dollars.
-    pub price: Option<Amount>,
-    /// That price before the last round; `None` if its token was not on the chart.
-    pub price_before: Option<Amount>,
-    /// The round in which it last operated; `None` if it never did.
-    pub round: Option<Round>,
-    /// What its runs earned in that round, in dollars.
-    pub dollars: Money,
-    /// Whether it kept that.
-    pub is_kept: bool,
-    /// In dollars.
-    pub cash: Money,
-}
-
-/// Returns the companies that operate, in operating order. Fails only if allocation fails.
-pub fn runners(alloc: Global, history: &History) -> Result<Vec<Runner>, AllocError>
-    ensures { IfOk result (λ rows. rows.items ≡ runners_of history.now) }
+/// Returns what is listed before a round: the companies that operate, in operating order, before an
+/// operating round; the privates before an opening round; all companies before a stock round. Fails
+/// only if allocation fails.
+pub fn rows_ahead(
+    alloc: Global,
+    history: &History,
+    round: Round,
+) -> Result<Vec<TableRow>, AllocError>
+    ensures { IfOk result (λ rows. rows.items ≡ rows_ahead history.now round) }
 {
     let events = history.events();
     let mut walk = Walk::along(events);
     let before = view_behind(&mut walk, before_round(events), history.seats());
-    runners_in(alloc, history, &before, operating_order(history).as_slice())
-}
-
-/// Returns the rows of these companies.
-fn runners_in(
-    alloc: Global,
-    history: &History,
-    before: &GameView,
-    order: &[Company],
-) -> Result<Vec<Runner>, AllocError>
-    ensures { IfOk result (λ rows.
-        rows.items ≡ map (runner_row history.now before.now) order.now) }
-{
-    let mut rows = Vec::new(alloc);
-    for company in order {
-        rows.push(runner_row(history, before, *company))?;
-    }
-    Ok(rows)
-}
-
-/// Returns the row of a company.
-fn runner_row(history: &History, before: &GameView, company: Company) -> Runner
-    ensures { result ≡ runner_row history.now before.now company }
-{
     let view = history.now();
-    let earnings = earnings_of(history.events(), company);
-    Runner {
-        company,
-        president: view.president(company),
-        price: share_price(&view, company),
-        price_before: share_price(before, company),
-        round: earnings.round,
-        dollars: earnings.dollars as Money,
-        is_kept: is_kept(history.events(), company),
-        cash: history.cash(Party::of_company(company)),
+    match round {
+        Round::Operating { .. } => {
+            company_rows(alloc, &view, &before, operating_order(history).as_slice())
+        }
+        Round::Opening(_) => private_rows(alloc, &view),
+        Round::Stock(_) => rows_of_all(alloc, &view, &before),
     }
 }
 
-/// Returns the price of a company's share, if its token is on the chart.
-pub(crate) fn share_price(view: &GameView, company: Company) -> Option<Amount>
-    ensures { result ≡ share_price view.now.events company }
+/// Returns the rows of all companies: as they stand now, and before the last round.
+#[tactic(auto, unfolding(crate::specs::Runners::rows_of_all))]
+fn rows_of_all(
+    alloc: Global,
+    view: &GameView,
+    before: &GameView,
+) -> Result<Vec<TableRow>, AllocError>
+    ensures { IfOk result (λ rows. rows.items ≡ rows_of_all view.now before.now) }
 {
-    match view.square(company) {
+    company_rows(alloc, view, before, &Company::ALL)
+}
+
+/// Returns the price of a square, if there is one.
+pub fn price_on(square: Option<Square>) -> Option<Amount>
+    ensures { result ≡ option_map price_of square }
+{
+    match square {
         Some(square) => Some(price(square)),
         None => None,
     }
 }
 
 /// Returns whether a company kept what it last earned.
-fn is_kept(events: &[Event], company: Company) -> bool
+pub(crate) fn is_kept(events: &[Event], company: Company) -> bool
     ensures { result ≡ is_kept company events.now }
 {
     let mut kept = false;

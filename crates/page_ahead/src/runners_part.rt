@@ -1,77 +1,79 @@
 //! Who runs next, as a table.
 
 use crate::dues_part::put_dues;
+use crate::page_column;
 use crate::panel::Panel;
-use crate::runner_rows::{Runner, falls_due};
+use crate::runner_rows::{falls_due, is_kept, price_on};
+use crate::table_part::{Column, Table, begin_table_of, put_cell, put_cells};
 use desk_base::board_at;
+use desk_cells::{Cell, CompanyRow, Field, TableRow};
 use desk_dues::dangers;
-use history::History;
-use markup::PagePiece::{Name, Number, Words};
-use markup::{NOTHING, Tag, Writer, begin_row, begin_table, put_caption, put_company, put_head};
+use markup::PagePiece::{Number, Words};
+use markup::{NOTHING, Tag, Writer, begin_row};
+use page_map::Scene;
+use purchases::has_trains;
 use std::alloc::{AllocError, Global};
-use tables::{Amount, Company, Kind, Money};
+use tables::{Amount, Company, Money};
+
+/// The companies that operate.
+static RUNNERS: Table = Table {
+    name: "runners",
+    class: "",
+    caption: "Who runs next, in order",
+    remark: "(in red what falls due if nobody orders anything)",
+    columns: &[
+        page_column!(Field::Name, "Company"),
+        page_column!(Field::President, "President"),
+        page_column!("#Price"),
+        page_column!("#Earned"),
+        page_column!("Trains"),
+        page_column!("#Cash"),
+        page_column!("Falls due"),
+    ],
+};
 
 /// Adds the companies in operating order, each with what falls due. Fails only if allocation fails.
 pub(crate) fn put_runners(
     alloc: Global,
     out: &mut Writer,
     panel: &Panel,
-    rows: &[Runner],
+    rows: &[TableRow],
 ) -> Result<(), AllocError> {
-    begin_table(out, "runners", "");
-    let remark = "(in red what falls due if nobody orders anything)";
-    put_caption(out, "Who runs next, in order", remark);
-    put_head(
-        out,
-        &[
-            "Company",
-            "President",
-            "#Price",
-            "#Earned",
-            "Trains",
-            "#Cash",
-            "Falls due",
-        ],
-    );
+    begin_table_of(out, &RUNNERS);
     out.begin(Tag::TableBody);
-    let board = board_at(alloc, &panel.history.now())?;
-    let dangers = dangers(panel.history);
+    let history = panel.scene.history;
+    let board = board_at(alloc, &history.now())?;
+    let dangers = dangers(history);
     let mut is_first = true;
     for row in rows {
-        let is_due = falls_due(panel.history, &board, row.company);
-        let danger = dangers
-            .as_slice()
-            .iter()
-            .find(|danger| danger.company == row.company);
-        begin_row(out, if is_due { "hot" } else { "" });
-        put_row(out, panel, row);
-        put_dues(out, panel, row, (is_due, is_first), danger.copied());
-        out.end();
-        is_first = is_first && !is_due;
+        if let TableRow::OfCompany(company) = row {
+            let is_due = falls_due(history, &board, company.company);
+            let danger = dangers
+                .as_slice()
+                .iter()
+                .find(|danger| danger.company == company.company);
+            begin_row(out, if is_due { "hot" } else { "" });
+            put_cells(out, panel.scene, RUNNERS.columns, row);
+            put_figures(out, panel.scene, row, company);
+            put_dues(out, panel, company, (is_due, is_first), danger.copied());
+            out.end();
+            is_first = is_first && !is_due;
+        }
     }
     out.end();
     out.end();
     Ok(())
 }
 
-/// Adds the cells of a company up to what falls due.
-fn put_row(out: &mut Writer, panel: &Panel, row: &Runner) {
-    put_company(out, row.company);
-    match row.president {
-        Some(seat) => out.element(Tag::Cell, &[Name(panel.name(seat))]),
-        None => out.element(Tag::Cell, &[Words(NOTHING)]),
-    }
-    put_price(out, row.price_before.unwrap_or(0), row.price.unwrap_or(0));
-    if row.round.is_some() {
-        out.begin_as(Tag::Cell, "num");
-        out.element(Tag::Bold, &[Number(row.dollars)]);
-        out.put(&[Words(if row.is_kept { " kept" } else { " paid" })]);
-        out.end();
-    } else {
-        out.element_as(Tag::Cell, "num", &[Words(NOTHING)]);
-    }
-    put_trains(out, panel.history, row.company);
-    out.element_as(Tag::Cell, "num", &[Number(row.cash)]);
+/// Adds the cells of a company between its president and what falls due: its price, what it last
+/// earned, its trains and its cash.
+fn put_figures(out: &mut Writer, scene: &Scene, row: &TableRow, company: &CompanyRow) {
+    let before = price_on(company.square_before).unwrap_or(0);
+    put_price(out, before, price_on(company.square).unwrap_or(0));
+    put_earned(out, scene, company);
+    put_trains(out, scene, company.company);
+    let cash = row.cell(&scene.history.now(), Field::Cash);
+    put_cell(out, scene, "num", cash, NOTHING);
 }
 
 /// Adds a cell with a price before and now; the first is 0 if there was none.
@@ -93,19 +95,26 @@ fn put_price(out: &mut Writer, before: Amount, now: Amount) {
     out.end();
 }
 
-/// Adds a cell with the trains of a company.
-fn put_trains(out: &mut Writer, history: &History, company: Company) {
-    out.begin(Tag::Cell);
-    out.within();
-    let mut before = "";
-    for &kind in &Kind::ALL {
-        for _ in 0..history.trains(Some(company), kind) {
-            out.put(&[Words(before), Words(kind.code())]);
-            before = " ";
-        }
+/// Adds a cell with what a company last earned, and whether it kept that.
+fn put_earned(out: &mut Writer, scene: &Scene, row: &CompanyRow) {
+    if row.revenue_round.is_none() {
+        out.element_as(Tag::Cell, "num", &[Words(NOTHING)]);
+        return;
     }
-    if before.is_empty() {
-        out.element(Tag::Bold, &[Words("none")]);
-    }
+    let is_kept = is_kept(scene.history.events(), row.company);
+    out.begin_as(Tag::Cell, "num");
+    out.element(Tag::Bold, &[Number(row.revenue)]);
+    out.put(&[Words(if is_kept { " kept" } else { " paid" })]);
     out.end();
+}
+
+/// Adds a cell with the trains of a company; that it has none in bold.
+fn put_trains(out: &mut Writer, scene: &Scene, company: Company) {
+    if has_trains(&scene.history.now(), company) {
+        put_cell(out, scene, "", Cell::TrainsOf(company), NOTHING);
+    } else {
+        out.begin(Tag::Cell);
+        out.element(Tag::Bold, &[Words("none")]);
+        out.end();
+    }
 }

@@ -1,17 +1,17 @@
 //! The page of all rounds of a game, with a button for each.
 ghost use Rattle.std.specs.Prelude.{IfErr, IfOk, OnOk};
-ghost use Rattle.desk_base.specs.Refusal.{HasNoState, IsOfGame};
+ghost use Rattle.desk_base.specs.Played.{IsMomentFault, moment_after};
 ghost use Rattle.markup.specs.Reading.{IsWellFormed};
 ghost use Rattle.sheets.specs.File.{IsAccepted};
 
-use crate::replayed::{ROUNDS_MOST, Replayed};
+use crate::replayed::Replayed;
 use crate::whole_page::{Told, page_to_hexes, put_hexes};
 use best_run::Search;
-use desk_base::{DeskFault, stood_now};
+use desk_base::{DeskFault, Moment, Position, position_at, stood_now};
 use markup::{Part, Writer};
-use page::{Source, due_shown, due_told, source_of};
+use page::{Source, due_shown, due_told, entries_of, source_of};
 use page_map::Scene;
-use rounds::{Play, Step, play};
+use rounds::{Play, Step};
 use sheets::{Sheets, collect};
 use std::alloc::{AllocError, Global};
 use tables::Round;
@@ -24,20 +24,12 @@ pub struct PageToHexes {
     pub hexes: Vec<Vec<Part>>,
 }
 
-/// A game that is played up to a round, with its rounds.
-#[derive(Drop)]
-struct Played<'a> {
-    play: Play<'a>,
-    replayed: Replayed,
-}
-
 /// Returns the page of the game of an order file with all its rounds up to one, or to the last if
 /// none is named, and a button for each. Of more than 60 rounds it shows the last 60. `due` says
 /// when the next sheets are due; it may be empty.
 ///
 /// Fails with `File` if the file is refused, with `Round` if the round was not played, and with
 /// `Memory` if allocation fails.
-#[tactic(auto, using(desk_base::proofs::Refusals::no_state_where_it_fails, desk_base::proofs::Refusals::no_state_of_game))]
 pub fn page_of_all(
     alloc: Global,
     file: &[u8],
@@ -46,7 +38,7 @@ pub fn page_of_all(
 ) -> Result<Vec<u8>, DeskFault>
     ensures accepted { OnOk result (IsAccepted file.now) }
     ensures well_formed { IfOk result (λ page. IsWellFormed page.items) }
-    ensures fault { IfErr result (λ fault. HasNoState fault file.now) }
+    ensures fault { IfErr result (IsMomentFault file.now (moment_after asked)) }
 {
     let page = begun(alloc, file, asked, due, None)?;
     Ok(ended_page(page)?)
@@ -62,7 +54,7 @@ pub fn page_of_all_to_hexes(
     style: &'static str,
 ) -> Result<PageToHexes, DeskFault>
     ensures accepted { OnOk result (IsAccepted file.now) }
-    ensures fault { IfErr result (λ fault. HasNoState fault file.now) }
+    ensures fault { IfErr result (IsMomentFault file.now (moment_after asked)) }
 {
     begun(alloc, file, asked, due, Some(style))
 }
@@ -78,7 +70,7 @@ fn ended_page(page: PageToHexes) -> Result<Vec<u8>, AllocError>
 }
 
 /// Returns the page of all rounds of the game of an order file, up to its hexes in words.
-#[tactic(auto, using(desk_base::proofs::Refusals::no_state_where_it_fails, desk_base::proofs::Refusals::no_state_of_game))]
+#[tactic(auto, using(desk_base::proofs::PlayedLemmas::no_moment_where_it_fails))]
 fn begun(
     alloc: Global,
     file: &[u8],
@@ -87,7 +79,7 @@ fn begun(
     style: Option<&'static str>,
 ) -> Result<PageToHexes, DeskFault>
     ensures accepted { OnOk result (IsAccepted file.now) }
-    ensures fault { IfErr result (λ fault. HasNoState fault file.now) }
+    ensures fault { IfErr result (IsMomentFault file.now (moment_after asked)) }
 {
     let sheets = collect(alloc, file)?;
     let due = due_shown(alloc, due)?;
@@ -106,90 +98,35 @@ fn page_of(
     asked: Option<Round>,
     told: Told,
 ) -> Result<PageToHexes, DeskFault>
-    ensures { IfErr result IsOfGame }
+    ensures { IfErr result (IsMomentFault sheets.now (moment_after asked)) }
 {
-    let played = play_to(alloc, sheets, source, asked)?;
-    page_of_play(alloc, &played.play, &played.replayed, told)
+    let position = position_at(alloc, sheets, Moment::after(asked))?;
+    let replayed = replayed_to(alloc, &position, source)?;
+    Ok(page_of_scene(alloc, &Scene::of(&position.stood()), &replayed, told)?)
 }
 
-/// Plays the game of some sheets up to the end of a round, or as far as they go if none is named,
-/// and keeps what a page shows of each round. Fails with `Round` if the round is not played, and
-/// with `Memory` if allocation fails.
-fn play_to<'a>(
-    alloc: Global,
-    sheets: &'a Sheets<'a>,
-    source: Source,
-    asked: Option<Round>,
-) -> Result<Played<'a>, DeskFault>
-    ensures { IfErr result IsOfGame }
-{
-    let mut play = Play::start(alloc, sheets)?;
+/// Plays the game up to a position, and returns what a page shows of each round. Fails only if
+/// allocation fails. (The game is played a second time, since a page of a round that is left out
+/// would cost as much as one that is shown.)
+fn replayed_to(alloc: Global, position: &Position, source: Source) -> Result<Replayed, AllocError> {
+    let entries = entries_of(alloc, &position.history)?;
+    let rounds = entries.len();
+    let mut replayed = Replayed::new(alloc, source, entries);
+    let mut play = Play::start(alloc, position.sheets)?;
     let mut search = Search::new(alloc);
-    let before = count_rounds(alloc, sheets, asked)?.saturating_sub(ROUNDS_MOST);
-    let mut replayed = Replayed::new(alloc, source, before);
-    loop {
+    for _ in 1..rounds {
         match play.step(&mut search) {
-            Ok(Step::Played(round)) => {
-                replayed.add(alloc, &play, round)?;
-                if asked == Some(round) {
-                    return Ok(Played { play, replayed });
+            Ok(Step::Played(_)) => {
+                if let Some(stood) = stood_now(&play) {
+                    replayed.add(alloc, &stood)?;
                 }
             }
-            Ok(Step::Ended(_)) => {
-                replayed.end(alloc, &play)?;
-                return ended(play, replayed, asked);
-            }
-            Err(fault) => return Err(DeskFault::from(fault.want_of_memory())),
+            Ok(Step::Ended(_)) => break,
+            Err(fault) => return Err(fault.want_of_memory()),
         }
     }
-}
-
-/// Returns how many rounds are played up to one, or in all if none is named. Fails only if
-/// allocation fails. (The game is played twice, since a page of a round that is left out would cost
-/// as much as one that is shown.)
-fn count_rounds(alloc: Global, sheets: &Sheets, asked: Option<Round>) -> Result<usize, DeskFault>
-    ensures { IfErr result IsOfGame }
-{
-    let game = play(alloc, sheets)?;
-    let mut count: usize = 0;
-    for event in game.history().events() {
-        if let Some(round) = event.round() {
-            count = count.saturating_add(1);
-            if asked == Some(round) {
-                return Ok(count);
-            }
-        }
-    }
-    Ok(count)
-}
-
-/// Returns a game that has ended, or waits for a sheet, unless a requested round was not played.
-fn ended<'a>(
-    play: Play<'a>,
-    replayed: Replayed,
-    asked: Option<Round>,
-) -> Result<Played<'a>, DeskFault>
-    ensures { IfErr result IsOfGame }
-{
-    match asked {
-        Some(_) => Err(DeskFault::Round),
-        None => Ok(Played { play, replayed }),
-    }
-}
-
-/// Returns the page of all rounds of a game that was played up to here, up to its hexes in words.
-fn page_of_play(
-    alloc: Global,
-    play: &Play,
-    replayed: &Replayed,
-    told: Told,
-) -> Result<PageToHexes, DeskFault>
-    ensures { IfErr result IsOfGame }
-{
-    match stood_now(play) {
-        Some(stood) => Ok(page_of_scene(alloc, &Scene::of(&stood), replayed, told)?),
-        None => Err(DeskFault::Round),
-    }
+    replayed.add(alloc, &position.stood())?;
+    Ok(replayed)
 }
 
 /// Returns the page of some rounds, given the game at their end.

@@ -1,20 +1,24 @@
 //! The cells of a page with all rounds that change from round to round: each is a text without an
 //! element, and becomes a part by itself.
-ghost use Rattle.std.specs.Prelude.{◌<◌};
+ghost use Rattle.std.specs.Prelude.{◌≡◌, IfOk};
+ghost use Rattle.desk_cells.specs.Before.{game_before};
+ghost use Rattle.page.specs.ShownRows.{players_shown, privates_shown, roster_shown, trains_shown};
 
-use desk_base::tokens_left;
-use desk_state::{operates, purse_of, rank_of, worths_of};
-use history::{Holder, Party, Shareholder};
+use desk_base::view_behind;
+use desk_cells::{Cell, Field, TableRow, before_round};
+use history::{Party, Walk};
 use map_tables::home;
 use markup::PagePiece::{Count, Name, Number, Place, Round, Words};
-use markup::Writer;
+use markup::{NOTHING, Writer};
 use page::{
-    FIGURES, colours_of, figure_of, put_codes, put_square_words, put_train_codes,
-    put_train_on_sale, put_waiting_words,
+    Column, FIGURES, PRIVATES, TRAINS, Table, colours_of, players_shown, privates_shown,
+    put_train_on_sale, put_words_of, roster_shown, trains_shown,
 };
+use page_ahead::page_column;
 use page_map::Scene;
 use rounds::End;
-use tables::{COMPANIES, Company, Money, Seat, certificate_limit, limit, price};
+use std::alloc::{AllocError, Global};
+use tables::{Company, Money, limit};
 
 /// How many cells say how the game stands in short.
 pub(crate) const STATUS_CELLS: usize = 8;
@@ -31,14 +35,149 @@ pub(crate) const STATUS: [&str; STATUS_CELLS] = [
     "Bank",
 ];
 
-/// How many cells the rows below the players have.
-pub(crate) const FIGURE_CELLS: usize = 4 * COMPANIES;
+/// The table of players, with the shares of each company by their holders.
+pub(crate) static PLAYERS: Table = Table {
+    name: "players",
+    class: "wide",
+    caption: "Players and shares",
+    remark: "(P presides)",
+    columns: &[
+        page_column!(Field::Name, "Player"),
+        page_column!(Field::Cash, "#Cash"),
+        page_column!(Field::CertificatesOf, "#Certificates"),
+        page_column!(Field::Worth, "#Worth"),
+        page_column!(Field::Rank, "#Rank"),
+        page_column!(Field::SharesOf(Company::Pennsylvania), "#"),
+        page_column!(Field::SharesOf(Company::NewYorkCentral), "#"),
+        page_column!(Field::SharesOf(Company::CanadianPacific), "#"),
+        page_column!(Field::SharesOf(Company::BaltimoreOhio), "#"),
+        page_column!(Field::SharesOf(Company::ChesapeakeOhio), "#"),
+        page_column!(Field::SharesOf(Company::Erie), "#"),
+        page_column!(Field::SharesOf(Company::NewHaven), "#"),
+        page_column!(Field::SharesOf(Company::BostonMaine), "#"),
+        page_column!(Field::Privates, "Privates"),
+    ],
+};
 
-/// How many cells a company has.
-pub(crate) const COMPANY_CELLS: usize = 8;
+/// The table of companies, in the order of the roster.
+pub(crate) static COMPANIES: Table = Table {
+    name: "companies",
+    class: "wide",
+    caption: "Companies",
+    remark: "",
+    columns: &[
+        page_column!(Field::Name, "Company"),
+        page_column!(Field::FullName, "Name"),
+        page_column!(Field::President, "President"),
+        page_column!(Field::Price, "Price"),
+        page_column!(Field::SquareAndPlace, "Square"),
+        page_column!(Field::Treasury, "Cash"),
+        page_column!(Field::Trains, "Trains"),
+        page_column!(Field::Tokens, "Tokens"),
+        page_column!(Field::Left, "Left"),
+        page_column!(Field::Privates, "Privates"),
+    ],
+};
 
-/// How many cells a player has.
-pub(crate) const PLAYER_CELLS: usize = 13;
+/// The rows of the tables of a page.
+#[derive(Drop)]
+pub(crate) struct Rows {
+    /// The players, by their seats.
+    pub(crate) players: Vec<TableRow>,
+    /// The companies in the order of the roster.
+    pub(crate) companies: Vec<TableRow>,
+    pub(crate) privates: Vec<TableRow>,
+    pub(crate) trains: Vec<TableRow>,
+}
+
+impl Rows {
+    /// Returns the rows of the tables of what a scene shows. Fails only if allocation fails.
+    pub(crate) fn of(alloc: Global, scene: &Scene) -> Result<Rows, AllocError>
+        ensures players { IfOk result (λ rows. rows.players.items ≡ players_shown
+            scene.now.history.now (game_before scene.now.history.now) scene.now.seats) }
+        ensures companies { IfOk result (λ rows. rows.companies.items
+            ≡ roster_shown scene.now.history.now (game_before scene.now.history.now)) }
+        ensures privates { IfOk result (λ rows. rows.privates.items
+            ≡ privates_shown scene.now.history.now.events) }
+        ensures trains { IfOk result (λ rows. rows.trains.items
+            ≡ trains_shown scene.now.history.now.events) }
+    {
+        let history = scene.history;
+        let events = history.events();
+        let mut walk = Walk::along(events);
+        let before = view_behind(&mut walk, before_round(events), history.seats());
+        let now = history.now();
+        Ok(Rows {
+            players: players_shown(alloc, history, &before, scene.seats)?,
+            companies: roster_shown(alloc, &now, &before)?,
+            privates: privates_shown(alloc, &now)?,
+            trains: trains_shown(alloc, &now)?,
+        })
+    }
+}
+
+/// Adds the cells of the tables, in the order in which the page has them: those of the rows below
+/// the players follow those of the players.
+pub(crate) fn put_table_cells(out: &mut Writer, scene: &Scene, rows: &Rows) {
+    put_rows(out, scene, &PLAYERS, rows.players.as_slice());
+    for figure in &FIGURES {
+        for company in &rows.companies {
+            put_cell_of(out, scene, figure, company);
+        }
+    }
+    put_rows(out, scene, &COMPANIES, rows.companies.as_slice());
+    put_rows(out, scene, &PRIVATES, rows.privates.as_slice());
+    put_rows(out, scene, &TRAINS, rows.trains.as_slice());
+}
+
+/// Adds the cells of the rows of a table, without their names.
+fn put_rows(out: &mut Writer, scene: &Scene, table: &Table, rows: &[TableRow]) {
+    for row in rows {
+        for column in table.columns {
+            put_cell_of(out, scene, column, row);
+        }
+    }
+}
+
+/// Adds the cell of a row in a column, unless it is the name of the row. A number of 0 and an empty
+/// list leave it empty.
+fn put_cell_of(out: &mut Writer, scene: &Scene, column: &Column, row: &TableRow) {
+    let Some(field) = changing(column) else {
+        return;
+    };
+    match row.cell(&scene.history.now(), field) {
+        Cell::TokensOf(company) => put_tokens(out, scene, company),
+        cell => {
+            let is_zero = matches!(cell, Cell::Number(_));
+            if !put_words_of(out, scene, cell) && !is_zero && column.nothing != NOTHING {
+                out.put(&[Words(column.nothing)]);
+            }
+        }
+    }
+    out.end_part();
+}
+
+/// Returns what a column shows, unless it has the names of the rows.
+pub(crate) fn changing(column: &Column) -> Option<Field> {
+    match column.field {
+        Some(Field::Name) | None => None,
+        field => field,
+    }
+}
+
+/// Adds the places of a company's tokens; before its first token its home.
+fn put_tokens(out: &mut Writer, scene: &Scene, company: Company) {
+    let mut before = "";
+    for token in scene.history.tokens() {
+        if token.1 == company {
+            out.put(&[Words(before), Place(token.0)]);
+            before = " ";
+        }
+    }
+    if before.is_empty() {
+        out.put(&[Words("home "), Place(home(company).place())]);
+    }
+}
 
 /// Adds the cells of `STATUS`.
 pub(crate) fn put_status_cells(out: &mut Writer, scene: &Scene) {
@@ -54,120 +193,19 @@ pub(crate) fn put_status_cells(out: &mut Writer, scene: &Scene) {
     out.end_part();
     out.put(&[Count(limit(phase)), Words(" at most")]);
     out.end_part();
-    put_number(out, Money::from(scene.in_set));
+    out.put(&[Number(Money::from(scene.in_set))]);
+    out.end_part();
     if let End::Awaiting(_) = scene.end {
         let seat = scene.history.now().priority();
         out.put(&[Name(scene.name(seat))]);
     }
     out.end_part();
-    put_sum(out, scene.history.cash(Party::Bank));
+    out.put(&[Number(scene.history.cash(Party::Bank))]);
+    out.end_part();
 }
 
 /// Adds a cell with words.
 fn put_cell(out: &mut Writer, words: &'static str) {
     out.put(&[Words(words)]);
     out.end_part();
-}
-
-/// Adds a cell with a sum of money.
-fn put_sum(out: &mut Writer, sum: Money) {
-    out.put(&[Number(sum)]);
-    out.end_part();
-}
-
-/// Adds a cell with a number; an empty one for 0.
-fn put_number(out: &mut Writer, number: Money) {
-    if number > 0 {
-        out.put(&[Number(number)]);
-    }
-    out.end_part();
-}
-
-/// Adds the cells of each row below the players, a cell for each company.
-pub(crate) fn put_figure_cells(out: &mut Writer, scene: &Scene) {
-    for &(_, figure) in &FIGURES {
-        for &company in &Company::ALL {
-            put_number(out, figure_of(scene, company, figure).unwrap_or(0));
-        }
-    }
-}
-
-/// Adds the cells of a company: its president, the price and square of its share, its cash, its
-/// trains, its tokens with how many are left, and its privates. If it does not operate, its trains
-/// are why.
-pub(crate) fn put_company_cells(out: &mut Writer, scene: &Scene, company: Company) {
-    let view = scene.history.now();
-    if let Some(seat) = view.president(company) {
-        out.put(&[Name(scene.name(seat))]);
-    }
-    out.end_part();
-    let square = view.square(company);
-    if let Some(square) = square {
-        out.put(&[Number(Money::from(price(square)))]);
-    }
-    out.end_part();
-    if let Some(square) = square {
-        put_square_words(out, &view, company, square);
-    }
-    out.end_part();
-    if operates(&view, company) {
-        put_sum(out, scene.history.cash(Party::of_company(company)));
-        put_train_codes(out, scene, company);
-    } else {
-        out.end_part();
-        put_waiting_words(out, scene, company);
-    }
-    out.end_part();
-    put_tokens(out, scene, company);
-    put_number(out, tokens_left(&view, company) as Money);
-    let _ = put_codes(out, scene, Holder::Company(company));
-    out.end_part();
-}
-
-/// Adds the cell of the places of a company's tokens; before its first token its home.
-fn put_tokens(out: &mut Writer, scene: &Scene, company: Company) {
-    let mut before = "";
-    for token in scene.history.tokens() {
-        if token.1 == company {
-            out.put(&[Words(before), Place(token.0)]);
-            before = " ";
-        }
-    }
-    if before.is_empty() {
-        out.put(&[Words("home "), Place(home(company).place())]);
-    }
-    out.end_part();
-}
-
-/// Adds the cells of a player: what they have, their rank, their shares of each company, and their
-/// privates.
-pub(crate) fn put_player_cells(out: &mut Writer, scene: &Scene, seat: Seat)
-    requires { seat.0 < 6 }
-{
-    let purse = purse_of(scene.history, seat);
-    put_number(out, purse.cash);
-    let most = certificate_limit(scene.history.seats());
-    let certificates = Number(Money::from(purse.certificates));
-    out.put(&[certificates, Words(" of "), Count(most)]);
-    out.end_part();
-    put_number(out, purse.worth);
-    let worths = worths_of(scene.history, scene.seats);
-    out.put(&[Count(rank_of(&worths[..scene.seats], purse.worth))]);
-    out.end_part();
-    for &company in &Company::ALL {
-        put_shares(out, scene, seat, company);
-    }
-    let _ = put_codes(out, scene, Holder::Seat(seat));
-    out.end_part();
-}
-
-/// Adds the cell of a player's shares of a company, with a mark if they preside.
-fn put_shares(out: &mut Writer, scene: &Scene, seat: Seat, company: Company) {
-    let shares = scene.history.shares(company, Shareholder::Seat(seat));
-    if scene.history.now().president(company) == Some(seat) {
-        out.put(&[Number(shares), Words(" P")]);
-        out.end_part();
-    } else {
-        put_number(out, shares);
-    }
 }

@@ -1,11 +1,14 @@
 //! Drawings that a page has once: each is defined in the picture of the map, and used by its
 //! number.
-ghost use Rattle.std.specs.Prelude.{◌≡◌, IfOk, IfSome, length, true};
+ghost use Rattle.std.specs.Prelude.{◌≡◌, [], IfOk, IfSome, length, true};
 ghost use Rattle.page_all.specs.Drawings.{IsNumberOf};
 
 use markup::PagePiece::{Count, Words};
-use markup::{Attr, Part, Tag, Writer};
+use markup::{Attr, Part, Point, Tag, Writer};
 use std::alloc::{AllocError, Global};
+
+/// The name of the drawing of the rim of a new tile, beside those with numbers.
+pub(crate) const NEW_TILE: &str = "kn";
 
 /// The drawings of a page; the number of each is its place.
 #[derive(Drop)]
@@ -15,7 +18,9 @@ pub(crate) struct Drawings {
 
 impl Drawings {
     /// Returns no drawings.
-    pub(crate) fn new(alloc: Global) -> Drawings {
+    pub(crate) fn new(alloc: Global) -> Drawings
+        ensures { result.parts.items ≡ [] }
+    {
         Drawings {
             parts: Vec::new(alloc),
         }
@@ -44,9 +49,14 @@ impl Drawings {
         self.parts.len()
     }
 
-    /// Adds the definitions of the drawings.
+    /// Adds the definitions of the drawings, and that of the rim of a new tile.
     pub(crate) fn put(&self, out: &mut Writer) {
         out.begin(Tag::Defs);
+        out.begin(Tag::Group);
+        out.value(Attr::Id, &[Words(NEW_TILE)]);
+        out.sign("#nw", Point::CENTRE);
+        out.sign("#nh", Point::CENTRE);
+        out.end();
         for (number, drawing) in self.parts.iter().enumerate() {
             out.begin(Tag::Group);
             out.value(Attr::Id, &[Words("k"), Count(number)]);

@@ -1,23 +1,22 @@
 //! What the page of a round shows in a page with all rounds, layer by layer, each in parts.
+ghost use Rattle.std.specs.Prelude.{◌≡◌};
+ghost use Rattle.page_all.specs.LayerNumbers.{number_of_hex_layer, number_of_layer};
 
-use crate::cells::{
-    COMPANY_CELLS, FIGURE_CELLS, STATUS_CELLS, put_company_cells, put_figure_cells,
-    put_player_cells, put_status_cells,
-};
+use crate::cells::{Rows, STATUS_CELLS, put_status_cells, put_table_cells};
 use crate::drawings::{Drawings, put_use};
 use crate::lines::put_lines;
 use crate::route_rows::put_route_rows;
+use crate::since::{Since, put_new_tiles, put_new_tokens};
 use crate::what_happened::put_turns;
 use map_tables::{HEXES, Hex};
 use markup::{Part, Tag, Writer};
-use page::{put_kind, put_owner, put_result, tokens_of};
+use page::{put_result, tokens_of};
 use page_charts::put_squares;
 use page_map::{Scene, begin_ground, has_drawing, put_rims, put_sight, put_stops};
 use page_routes::{Routes, put_tags};
 use picture::{Look, draw_track};
 use replay::Layers;
 use std::alloc::{AllocError, Global};
-use tables::{COMPANIES, Company, Kind, Private, Seat};
 
 /// A layer of a page.
 #[derive(Clone, Copy)]
@@ -34,10 +33,10 @@ pub(crate) enum Layer {
     Turns,
     /// The squares and tokens of the stock chart.
     Chart,
-    /// The rows of the privates.
-    Privates,
-    /// The rows of the trains.
-    Trains,
+    /// The rims of the tiles that are new since an earlier page.
+    NewTiles,
+    /// Those of the tokens.
+    NewTokens,
 }
 
 /// How many layers there are, apart from those of the hexes and the cells.
@@ -51,13 +50,15 @@ const LAYERS: [Layer; LAYERS_COUNT] = [
     Layer::Runs,
     Layer::Turns,
     Layer::Chart,
-    Layer::Privates,
-    Layer::Trains,
+    Layer::NewTiles,
+    Layer::NewTokens,
 ];
 
 impl Layer {
     /// Returns its number: its place in `LAYERS`.
-    pub(crate) fn number(self) -> usize {
+    pub(crate) fn number(self) -> usize
+        ensures { result ≡ number_of_layer self }
+    {
         match self {
             Layer::Result => 0,
             Layer::Lines => 1,
@@ -65,8 +66,8 @@ impl Layer {
             Layer::Runs => 3,
             Layer::Turns => 4,
             Layer::Chart => 5,
-            Layer::Privates => 6,
-            Layer::Trains => 7,
+            Layer::NewTiles => 6,
+            Layer::NewTokens => 7,
         }
     }
 }
@@ -96,7 +97,9 @@ const HEX_LAYERS: [HexLayer; HEX_LAYERS_COUNT] = [
 ];
 
 /// Returns the number of a layer of a hex.
-pub(crate) fn hex_layer(hex: Hex, layer: HexLayer) -> usize {
+pub(crate) fn hex_layer(hex: Hex, layer: HexLayer) -> usize
+    ensures { result ≡ number_of_hex_layer hex layer }
+{
     let within = match layer {
         HexLayer::Ground => 0,
         HexLayer::Track => 1,
@@ -109,14 +112,9 @@ pub(crate) fn hex_layer(hex: Hex, layer: HexLayer) -> usize {
 /// The number of the layer of the first cell of the status.
 pub(crate) const FIRST_STATUS: usize = LAYERS_COUNT + HEX_LAYERS_COUNT * HEXES;
 
-/// The number of the layer of the first cell of the rows below the players.
-pub(crate) const FIRST_FIGURE: usize = FIRST_STATUS + STATUS_CELLS;
-
-/// The number of the layer of the first cell of the first company.
-pub(crate) const FIRST_COMPANY: usize = FIRST_FIGURE + FIGURE_CELLS;
-
-/// The number of the layer of the first cell of the first player.
-pub(crate) const FIRST_PLAYER: usize = FIRST_COMPANY + COMPANY_CELLS * COMPANIES;
+/// The number of the layer of the first cell of the tables. Those of the others follow, in the
+/// order of `put_table_cells`.
+pub(crate) const FIRST_CELL: usize = FIRST_STATUS + STATUS_CELLS;
 
 /// What a page shows of a round besides the game.
 #[derive(Clone, Copy)]
@@ -127,6 +125,8 @@ pub(crate) struct Shown<'a> {
     pub(crate) lines: &'a [Option<usize>],
     /// What happened in the round.
     pub(crate) turns: &'a [u8],
+    /// Since when the tiles and tokens are on the map.
+    pub(crate) since: &'a Since,
 }
 
 /// Returns what a page shows of a scene: its layers, those of each hex, and each cell. Fails only
@@ -164,22 +164,14 @@ fn parts_of(
     let mut out = Writer::of_parts(alloc);
     let history = scene.history;
     match layer {
-        Layer::Result => put_result(&mut out, scene),
+        Layer::Result => put_result(alloc, &mut out, scene)?,
         Layer::Lines => put_lines(&mut out, history, shown.routes, shown.lines),
         Layer::Sums => put_tags(alloc, &mut out, history, shown.routes)?,
         Layer::Runs => put_route_rows(alloc, &mut out, history, shown.routes, shown.lines)?,
         Layer::Turns => put_turns(&mut out, history.now().round(), shown.turns),
         Layer::Chart => put_squares(&mut out, &tokens_of(history), false),
-        Layer::Privates => {
-            for &private in &Private::ALL {
-                put_owner(&mut out, scene, private);
-            }
-        }
-        Layer::Trains => {
-            for &kind in &Kind::ALL {
-                put_kind(&mut out, scene, kind);
-            }
-        }
+        Layer::NewTiles => put_new_tiles(&mut out, shown.since),
+        Layer::NewTokens => put_new_tokens(&mut out, history, shown.since),
     }
     out.finish_parts()
 }
@@ -230,17 +222,11 @@ fn track_of(alloc: Global, look: &Look) -> Result<Option<Part>, AllocError> {
     Ok(parts.pop())
 }
 
-/// Returns the cells of a page, each as a part: those of the status, of the rows below the players,
-/// of each company, and of each player.
+/// Returns the cells of a page, each as a part: those of the status, and those of the tables.
 fn cells_of(alloc: Global, scene: &Scene) -> Result<Vec<Part>, AllocError> {
+    let rows = Rows::of(alloc, scene)?;
     let mut out = Writer::of_parts(alloc);
     put_status_cells(&mut out, scene);
-    put_figure_cells(&mut out, scene);
-    for &company in &Company::ALL {
-        put_company_cells(&mut out, scene, company);
-    }
-    for number in 0..scene.seats {
-        put_player_cells(&mut out, scene, Seat::at(number));
-    }
+    put_table_cells(&mut out, scene, &rows);
     out.finish_parts()
 }

@@ -8,7 +8,7 @@
 //! that round, in order. The page is well-formed: `markup` defines that. `bench/page-all` compares
 //! what each button shows with the page of its round.
 //!
-//! The definitions, in `specs/`: `Drawings` (the numbers of what stands once).
+//! The definitions, in `specs/`: `Drawings` (the numbers of what stands once), `LayerNumbers`.
 //!
 //! The page of all rounds of an order file in memory, `FIRST`:
 //!
@@ -20,8 +20,9 @@
 //! ```
 //!
 //! Reading order: `drawings` (what is drawn often stands once), `lines` (of routes), `route_rows`,
-//! `what_happened`, `cells` (of tables), `layers` (all of a round), `replayed` (the rounds),
-//! `style`, `tables_part`, `whole_page` (how it is written), `all_rounds` (`page_of_all`).
+//! `what_happened`, `cells` (of tables), `since` (when tiles and tokens came), `layers` (all of a
+//! round), `replayed` (the rounds), `style`, `round_buttons`, `tables_part`, `whole_page` (how it
+//! is written), `all_rounds` (`page_of_all`).
 #![tactic(auto)]
 
 mod all_rounds;
@@ -30,7 +31,9 @@ mod drawings;
 mod layers;
 mod lines;
 mod replayed;
+mod round_buttons;
 mod route_rows;
+mod since;
 mod style;
 mod tables_part;
 mod what_happened;

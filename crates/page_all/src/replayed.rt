@@ -1,28 +1,30 @@
 //! The rounds of a game, each with what a page shows of it.
-ghost use Rattle.std.specs.Prelude.{◌≡◌, ◌-◌, length};
+ghost use Rattle.std.specs.Prelude.{◌≡◌, ◌-◌, [], length};
 
 use crate::drawings::Drawings;
 use crate::layers::{Shown, layers_of};
 use crate::lines::line_numbers;
+use crate::since::Since;
 use crate::what_happened::turns_text;
-use desk_base::{Stood, stood_now};
-use page::{Source, entry_of};
+use desk_base::Stood;
+use page::Source;
 use page_charts::Entry;
 use page_map::Scene;
 use page_routes::{Routes, last_routes};
 use replay::Layers;
-use rounds::Play;
 use std::alloc::{AllocError, Global};
-use tables::Round;
+use tables::{Kind, Round};
 
 /// The most rounds that a page shows.
-pub(crate) const ROUNDS_MOST: usize = 60;
+const ROUNDS_MOST: usize = 60;
 
 /// The rounds that a page shows, with what it shows of each.
 #[derive(Drop)]
 pub(crate) struct Replayed {
     pub(crate) source: Source,
     pub(crate) rounds: Vec<Round>,
+    /// The phase at the end of each.
+    pub(crate) phases: Vec<Kind>,
     pub(crate) pages: Vec<Layers>,
     /// For each page the numbers of the drawings of its routes' lines.
     pub(crate) lines: Vec<Vec<Option<usize>>>,
@@ -30,62 +32,53 @@ pub(crate) struct Replayed {
     pub(crate) before: usize,
     /// How many of these have been played.
     passed: usize,
-    /// How the game stood after each round.
+    /// The figures after each round, those left out too.
     pub(crate) entries: Vec<Entry>,
     /// What is drawn once.
     pub(crate) drawings: Drawings,
     /// The runs of the last operating round so far.
     routes: Option<Routes>,
+    /// Since when the tiles and tokens are on the map.
+    since: Since,
 }
 
 impl Replayed {
-    /// Returns no rounds; so many are to be left out before the first one.
-    pub(crate) fn new(alloc: Global, source: Source, before: usize) -> Replayed {
+    /// Returns no rounds, given the figures after each round that will be added. Rounds before the
+    /// last `ROUNDS_MOST` are left out.
+    pub(crate) fn new(alloc: Global, source: Source, entries: Vec<Entry>) -> Replayed
+        ensures { result.pages.items ≡ [] }
+    {
+        let before = entries.len().saturating_sub(ROUNDS_MOST);
         Replayed {
             source,
             rounds: Vec::new(alloc),
+            phases: Vec::new(alloc),
             pages: Vec::new(alloc),
             lines: Vec::new(alloc),
             before,
             passed: 0,
-            entries: Vec::new(alloc),
+            entries,
             drawings: Drawings::new(alloc),
             routes: None,
+            since: Since::new(alloc),
         }
     }
 
-    /// Adds a round that has been played, unless it is to be left out. Fails only if allocation
-    /// fails.
-    pub(crate) fn add(
-        &mut self,
-        alloc: Global,
-        play: &Play,
-        round: Round,
-    ) -> Result<(), AllocError> {
-        let Some(stood) = stood_now(play) else {
-            return Ok(());
-        };
-        self.entries.push(entry_of(stood.history, round))?;
-        if self.passed < self.before {
-            self.passed += 1;
-            return Ok(());
+    /// Adds the page of a game at a moment, with the round that it played last, unless this one is
+    /// to be left out. Fails only if allocation fails.
+    pub(crate) fn add(&mut self, alloc: Global, stood: &Stood) -> Result<(), AllocError> {
+        if let Some(round) = stood.history.now().round() {
+            if self.passed < self.before {
+                self.passed += 1;
+                return Ok(());
+            }
+            self.rounds.push(round)?;
+            self.phases.push(stood.history.phase())?;
+            if matches!(round, Round::Operating { .. }) {
+                self.routes = None;
+            }
         }
-        self.rounds.push(round)?;
-        if matches!(round, Round::Operating { .. }) {
-            self.routes = None;
-        }
-        self.add_page(alloc, &stood)
-    }
-
-    /// Overwrites the last page once play has stopped, since the game may have ended. If no round
-    /// was played, that page is the first. Fails only if allocation fails.
-    pub(crate) fn end(&mut self, alloc: Global, play: &Play) -> Result<(), AllocError> {
-        let _ = self.pages.pop();
-        let _ = self.lines.pop();
-        match stood_now(play) {
-            Some(stood) => self.add_page(alloc, &stood),
-            None => Ok(()),
-        }
+        self.add_page(alloc, stood)
     }
 
     /// Adds the page of a game at a moment.
@@ -95,11 +88,13 @@ impl Replayed {
             None => last_routes(alloc, stood.history)?,
         };
         let turns = turns_text(alloc, stood)?;
+        self.since.add(stood.history, self.pages.len())?;
         let lines = line_numbers(alloc, stood.history, &routes, &mut self.drawings)?;
         let shown = Shown {
             routes: &routes,
             lines: lines.as_slice(),
             turns: turns.as_slice(),
+            since: &self.since,
         };
         let page = layers_of(alloc, &Scene::of(stood), shown, &mut self.drawings)?;
         self.pages.push(page)?;
@@ -112,7 +107,7 @@ impl Replayed {
     pub(crate) fn has_line(&self, number: usize) -> bool {
         self.lines
             .iter()
-            .any(|drawn| is_among(number, drawn.as_slice()))
+            .any(|drawn| drawn.iter().any(|other| *other == Some(number)))
     }
 
     /// Returns the number of its last page.
@@ -121,9 +116,4 @@ impl Replayed {
     {
         self.pages.len().saturating_sub(1)
     }
-}
-
-/// Returns whether a number is among those of some lines.
-fn is_among(number: usize, drawn: &[Option<usize>]) -> bool {
-    drawn.iter().any(|other| *other == Some(number))
 }

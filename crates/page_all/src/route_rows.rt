@@ -68,6 +68,7 @@ fn put_row(out: &mut Writer, board: &Board, route: &Route, drawn: Option<usize>)
 /// Adds the company of a route, with the box that shows the route alone if it has a line.
 fn put_box(out: &mut Writer, route: &Route, drawn: Option<usize>) {
     out.begin(Tag::Heading);
+    out.value(Attr::Scope, &[Words("row")]);
     out.begin(Tag::InputLabel);
     out.within();
     if let Some(drawn) = drawn {

@@ -1,81 +1,75 @@
 //! The tables of the page of all rounds.
 
-use crate::cells::{COMPANY_CELLS, PLAYER_CELLS};
-use crate::layers::{FIRST_COMPANY, FIRST_FIGURE, FIRST_PLAYER, Layer};
+use crate::cells::{COMPANIES, PLAYERS, Rows, changing};
+use crate::layers::FIRST_CELL;
 use crate::replayed::Replayed;
-use markup::PagePiece::{Name, Words};
-use markup::{
-    Tag, Writer, begin_head, begin_heading, begin_row, begin_section, begin_table, end_head,
-    put_caption, put_company, put_head, put_heading, put_row_head, put_token,
-};
-use page::{FIGURES, begin_owners, begin_trains, name_of, put_revenue};
+use desk_cells::TableRow;
+use markup::PagePiece::Words;
+use markup::{Attr, Tag, Writer, begin_row, begin_section, put_row_head};
+use page::{Column, FIGURES, PRIVATES, TRAINS, Table, begin_table_of, put_cell_in, put_revenue};
 use page_map::Scene;
-use replay::put_cells;
 use std::alloc::{AllocError, Global};
-use tables::{COMPANIES, Company, Seat};
 
-impl Replayed {
-    /// Adds cells of a row of a table, as many as this, the first of which is the layer of a
-    /// number.
-    fn put_cells_of(
-        &self,
-        alloc: Global,
-        out: &mut Writer,
-        first: usize,
-        count: usize,
-    ) -> Result<(), AllocError> {
-        for number in 0..count {
-            let layer = first.saturating_add(number);
-            put_cells(out, self.lasting(alloc, layer)?, self.last(), Tag::Cell);
-        }
-        Ok(())
-    }
+/// Where the tables are written, cell by cell.
+#[derive(Drop)]
+struct Cells<'a> {
+    alloc: Global,
+    replayed: &'a Replayed,
+    scene: &'a Scene<'a>,
+    /// The number of the layer of the next cell.
+    next: usize,
+}
 
-    /// Adds the tables.
-    pub(crate) fn put_tables(
-        &self,
-        alloc: Global,
+impl Cells<'_> {
+    /// Adds a table with its rows.
+    fn put_table(
+        &mut self,
         out: &mut Writer,
-        scene: &Scene,
+        table: &Table,
+        rows: &[TableRow],
     ) -> Result<(), AllocError> {
-        begin_section(out, "tables", "Tables", "");
-        self.put_players(alloc, out, scene)?;
-        self.put_companies(alloc, out)?;
-        put_revenue(alloc, out, scene.history)?;
-        begin_owners(out);
-        self.put_layer(alloc, out, Layer::Privates, Tag::TableBody)?;
-        out.end();
-        begin_trains(out);
-        self.put_layer(alloc, out, Layer::Trains, Tag::TableBody)?;
-        out.end();
-        out.end();
-        Ok(())
-    }
-
-    /// Adds the table of players, and the rows below them.
-    fn put_players(
-        &self,
-        alloc: Global,
-        out: &mut Writer,
-        scene: &Scene,
-    ) -> Result<(), AllocError> {
-        begin_players(out);
+        begin_table_of(out, table);
         out.begin(Tag::TableBody);
-        for number in 0..scene.seats {
+        self.put_rows(out, table, rows)?;
+        out.end();
+        out.end();
+        Ok(())
+    }
+
+    /// Adds the rows of a table, each with its name.
+    fn put_rows(
+        &mut self,
+        out: &mut Writer,
+        table: &Table,
+        rows: &[TableRow],
+    ) -> Result<(), AllocError> {
+        for row in rows {
             begin_row(out, "");
-            put_row_head(out, &[Name(scene.name(Seat::at(number)))]);
-            let first = FIRST_PLAYER + PLAYER_CELLS * number;
-            self.put_cells_of(alloc, out, first, PLAYER_CELLS)?;
+            for column in table.columns {
+                match changing(column) {
+                    Some(_) => self.put_cell(out, column)?,
+                    None => put_cell_in(out, self.scene, column, row),
+                }
+            }
             out.end();
         }
-        for (number, row) in FIGURES.iter().enumerate() {
+        Ok(())
+    }
+
+    /// Adds the table of players, and the figures of the companies below it.
+    fn put_players(&mut self, out: &mut Writer, rows: &Rows) -> Result<(), AllocError> {
+        begin_table_of(out, &PLAYERS);
+        out.begin(Tag::TableBody);
+        self.put_rows(out, &PLAYERS, rows.players.as_slice())?;
+        for figure in &FIGURES {
             begin_row(out, "sum");
-            put_row_head(out, &[Words(row.0)]);
+            put_row_head(out, &[Words(figure.words())]);
             for _ in 0..4 {
                 out.element(Tag::Cell, &[]);
             }
-            let first = FIRST_FIGURE.saturating_add(COMPANIES.saturating_mul(number));
-            self.put_cells_of(alloc, out, first, COMPANIES)?;
+            for _ in &rows.companies {
+                self.put_cell(out, figure)?;
+            }
             out.element(Tag::Cell, &[]);
             out.end();
         }
@@ -84,60 +78,40 @@ impl Replayed {
         Ok(())
     }
 
-    /// Adds the table of companies.
-    fn put_companies(&self, alloc: Global, out: &mut Writer) -> Result<(), AllocError> {
-        begin_companies(out);
-        out.begin(Tag::TableBody);
-        for &company in &Company::ALL {
-            begin_row(out, "");
-            put_company(out, company);
-            out.element(Tag::Cell, &[Words(name_of(company))]);
-            let first = FIRST_COMPANY + COMPANY_CELLS * company.index();
-            self.put_cells_of(alloc, out, first, COMPANY_CELLS)?;
-            out.end();
+    /// Adds the next cell, which is of a column.
+    fn put_cell(&mut self, out: &mut Writer, column: &Column) -> Result<(), AllocError> {
+        out.begin(Tag::Cell);
+        if column.heading.starts_with('#') {
+            out.value(Attr::Class, &[Words("num")]);
         }
-        out.end();
+        self.replayed
+            .put_numbered(self.alloc, out, self.next, Tag::Span)?;
+        self.next = self.next.saturating_add(1);
         out.end();
         Ok(())
     }
 }
 
-/// Begins the table of players up to its rows.
-fn begin_players(out: &mut Writer) {
-    begin_table(out, "players", "wide");
-    put_caption(out, "Players and shares", "(P presides)");
-    begin_head(out);
-    put_heading(out, "", &[Words("Player")]);
-    for &word in &["Cash", "Certificates", "Worth", "Rank"] {
-        put_heading(out, "num", &[Words(word)]);
-    }
-    for &company in &Company::ALL {
-        begin_heading(out, "num");
-        put_token(out, company);
-        out.put(&[Words(company.code())]);
-        out.end();
-    }
-    put_heading(out, "", &[Words("Privates")]);
-    end_head(out);
-}
-
-/// Begins the table of companies up to its rows.
-fn begin_companies(out: &mut Writer) {
-    begin_table(out, "companies", "wide");
-    put_caption(out, "Companies", "");
-    put_head(
-        out,
-        &[
-            "Company",
-            "Name",
-            "President",
-            "Price",
-            "Square",
-            "Cash",
-            "Trains",
-            "Tokens",
-            "Left",
-            "Privates",
-        ],
-    );
+/// Adds the tables of some rounds, given the game at their end.
+pub(crate) fn put_tables(
+    alloc: Global,
+    out: &mut Writer,
+    scene: &Scene,
+    replayed: &Replayed,
+) -> Result<(), AllocError> {
+    let rows = Rows::of(alloc, scene)?;
+    let mut cells = Cells {
+        alloc,
+        replayed,
+        scene,
+        next: FIRST_CELL,
+    };
+    begin_section(out, "tables", "Tables", "");
+    cells.put_players(out, &rows)?;
+    cells.put_table(out, &COMPANIES, rows.companies.as_slice())?;
+    put_revenue(alloc, out, scene.history)?;
+    cells.put_table(out, &PRIVATES, rows.privates.as_slice())?;
+    cells.put_table(out, &TRAINS, rows.trains.as_slice())?;
+    out.end();
+    Ok(())
 }

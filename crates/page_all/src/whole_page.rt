@@ -6,12 +6,12 @@ ghost use Rattle.replay.specs.Classes.{LeavesEach};
 use crate::cells::STATUS;
 use crate::layers::{FIRST_STATUS, HexLayer, Layer, hex_layer};
 use crate::replayed::Replayed;
+use crate::round_buttons::{put_buttons, put_heading, put_title, put_words_of_buttons};
 use crate::route_rows::begin_routes;
-use crate::style::{
-    STYLE_OF_BUTTONS, put_box_style, put_boxes_style, put_lines_style, put_moves_style,
-};
+use crate::style::{STYLE_OF_BUTTONS, put_boxes_style, put_lines_style};
+use crate::tables_part::put_tables;
 use map_tables::Hex;
-use markup::PagePiece::{Count, Hex as Hexed, Round as Named, Words};
+use markup::PagePiece::{Hex as Hexed, Words};
 use markup::{Attr, Part, Tag, Writer, begin_plain_section, begin_section};
 use page::{
     STYLE, STYLE_OF_DUE, players_of, put_links, put_names, put_next, put_skip, put_source, thinned,
@@ -19,7 +19,7 @@ use page::{
 use page_charts::{begin_chart, end_chart, put_history};
 use page_map::{Scene, begin_hex, begin_hexes, begin_picture, end_map, put_borders, put_key};
 use picture::{centre, city_name};
-use replay::{Lasting, put_button, put_button_words, put_replay, put_rules, replay_of};
+use replay::{Lasting, put_if_before, put_replay, put_rules, replay_of};
 use std::alloc::{AllocError, Global};
 use std::collections::VecDeque;
 
@@ -49,11 +49,21 @@ pub(crate) fn page_to_hexes(
     replayed.put_status(alloc, &mut out, scene, told.due)?;
     replayed.put_layer(alloc, &mut out, Layer::Result, Tag::Division)?;
     replayed.put_map(alloc, &mut out)?;
-    replayed.put_routes(alloc, &mut out)?;
-    replayed.put_turns(alloc, &mut out)?;
-    replayed.put_chart(alloc, &mut out)?;
+    begin_plain_section(&mut out, "routes", "Routes");
+    begin_routes(&mut out);
+    replayed.put_layer(alloc, &mut out, Layer::Runs, Tag::TableBody)?;
+    out.end();
+    out.end();
+    begin_section(&mut out, "bulletin", "What happened", "");
+    replayed.put_layer(alloc, &mut out, Layer::Turns, Tag::Division)?;
+    out.end();
+    begin_section(&mut out, "chart", "Stock chart", "");
+    begin_chart(&mut out);
+    replayed.put_layer(alloc, &mut out, Layer::Chart, Tag::Group)?;
+    end_chart(&mut out);
+    out.end();
     put_history(&mut out, &players_of(scene), entries.as_slice());
-    replayed.put_tables(alloc, &mut out, scene)?;
+    put_tables(alloc, &mut out, scene, replayed)?;
     Ok(out)
 }
 
@@ -72,82 +82,41 @@ const LINKS: [(&str, &str); 11] = [
     ("#hexes", "Hexes"),
 ];
 
-/// Adds what stands before the sections: the title, the buttons and the head.
+/// Adds what stands before the sections: the title, the styles, the buttons and the head.
 fn begin_page(out: &mut Writer, scene: &Scene, replayed: &Replayed, told: Told) {
-    put_title(out, replayed, Tag::Title);
+    put_title(out, replayed);
     out.element(Tag::Style, &[Words(STYLE)]);
     out.begin(Tag::Style);
     out.within();
     out.put(&[Words(STYLE_OF_BUTTONS)]);
     put_lines_style(out);
     put_rules(out, replayed.last());
-    put_boxes(out, replayed);
-    if told.style.is_some() {
-        put_moves_style(out, replayed.last());
+    put_boxes_style(out, replayed);
+    if let Some(style) = told.style {
+        // What may be done next is shown with the last page alone.
+        put_if_before(out, replayed.last());
+        out.put(&[Words("~main :is(.do,#may){display:none}\n")]);
+        out.end();
+        out.begin(Tag::Style);
+        out.within();
+        out.put(&[Words(style)]);
     }
     out.end();
-    if let Some(style) = told.style {
-        out.element(Tag::Style, &[Words(style)]);
-    }
     if !told.due.is_empty() {
         out.element(Tag::Style, &[Words(STYLE_OF_DUE)]);
     }
     out.end();
     out.begin(Tag::Body);
     out.within();
-    for (number, round) in replayed.rounds.iter().enumerate() {
-        put_button(
-            out,
-            number,
-            replayed.last(),
-            &[Words("After "), Named(*round)],
-        );
-        out.put(&[Words("\n")]);
-    }
+    put_buttons(out, replayed);
     put_skip(out);
     out.begin(Tag::Header);
-    put_title(out, replayed, Tag::H1);
+    put_heading(out, replayed);
     put_names(out, scene);
     put_links(out, &LINKS);
     out.end();
-    out.begin_as(Tag::Nav, "rounds");
-    out.within();
-    for (number, round) in replayed.rounds.iter().enumerate() {
-        put_button_words(out, number, &[Named(*round)]);
-    }
-    out.end();
+    put_words_of_buttons(out, replayed);
     out.begin(Tag::Main);
-}
-
-/// Adds the rules by which the boxes of routes show some of them alone.
-fn put_boxes(out: &mut Writer, replayed: &Replayed) {
-    put_boxes_style(out, replayed.lines.as_slice());
-    for number in 0..replayed.drawings.count() {
-        if replayed.has_line(number) {
-            put_box_style(out, number);
-        }
-    }
-}
-
-/// Adds the title of the page: how many rounds it shows, and of how many if there are more.
-fn put_title(out: &mut Writer, replayed: &Replayed, tag: Tag) {
-    let shown = replayed.rounds.len();
-    if shown == 0 {
-        out.element(tag, &[Words("1830: before PR1")]);
-        return;
-    }
-    let words = if shown == 1 { " round" } else { " rounds" };
-    if replayed.before == 0 {
-        out.element(tag, &[Words("1830: "), Count(shown), Words(words)]);
-    } else {
-        let all = Count(shown.saturating_add(replayed.before));
-        let words = [Words("1830: the last "), Count(shown), Words(" of "), all];
-        out.begin(tag);
-        out.within();
-        out.put(&words);
-        out.put(&[Words(" rounds")]);
-        out.end();
-    }
 }
 
 impl Replayed {
@@ -223,20 +192,30 @@ impl Replayed {
             out.begin(Tag::Anchor);
             out.value(Attr::Href, &[Words("#hex-"), Hexed(hex)]);
             put_hex_title(out, hex);
-            self.put_hex_layer(alloc, out, hex, HexLayer::Ground)?;
+            self.put_numbered(alloc, out, hex_layer(hex, HexLayer::Ground), Tag::Group)?;
             out.end();
         }
         out.end();
         out.begin_as(Tag::Group, "top");
         self.put_on_hexes(alloc, out, HexLayer::Track)?;
         put_borders(out);
+        self.put_new(alloc, out, Layer::NewTiles)?;
         out.end();
         self.put_layer(alloc, out, Layer::Lines, Tag::Group)?;
         out.begin_as(Tag::Group, "top");
         self.put_on_hexes(alloc, out, HexLayer::Stops)?;
         self.put_layer(alloc, out, Layer::Sums, Tag::Group)?;
+        self.put_new(alloc, out, Layer::NewTokens)?;
         end_map(out);
         put_key(out);
+        out.end();
+        Ok(())
+    }
+
+    /// Adds a layer of what is new since an earlier page.
+    fn put_new(&self, alloc: Global, out: &mut Writer, layer: Layer) -> Result<(), AllocError> {
+        out.begin_as(Tag::Group, "new");
+        self.put_layer(alloc, out, layer, Tag::Group)?;
         out.end();
         Ok(())
     }
@@ -250,48 +229,9 @@ impl Replayed {
     ) -> Result<(), AllocError> {
         for &hex in &Hex::ALL {
             out.begin_at(centre(hex));
-            self.put_hex_layer(alloc, out, hex, layer)?;
+            self.put_numbered(alloc, out, hex_layer(hex, layer), Tag::Group)?;
             out.end();
         }
-        Ok(())
-    }
-
-    /// Adds a layer of a hex.
-    fn put_hex_layer(
-        &self,
-        alloc: Global,
-        out: &mut Writer,
-        hex: Hex,
-        layer: HexLayer,
-    ) -> Result<(), AllocError> {
-        self.put_numbered(alloc, out, hex_layer(hex, layer), Tag::Group)
-    }
-
-    /// Adds the table of the routes.
-    fn put_routes(&self, alloc: Global, out: &mut Writer) -> Result<(), AllocError> {
-        begin_plain_section(out, "routes", "Routes");
-        begin_routes(out);
-        self.put_layer(alloc, out, Layer::Runs, Tag::TableBody)?;
-        out.end();
-        out.end();
-        Ok(())
-    }
-
-    /// Adds what happened in each round.
-    fn put_turns(&self, alloc: Global, out: &mut Writer) -> Result<(), AllocError> {
-        begin_section(out, "bulletin", "What happened", "");
-        self.put_layer(alloc, out, Layer::Turns, Tag::Division)?;
-        out.end();
-        Ok(())
-    }
-
-    /// Adds the stock chart.
-    fn put_chart(&self, alloc: Global, out: &mut Writer) -> Result<(), AllocError> {
-        begin_section(out, "chart", "Stock chart", "");
-        begin_chart(out);
-        self.put_layer(alloc, out, Layer::Chart, Tag::Group)?;
-        end_chart(out);
-        out.end();
         Ok(())
     }
 

@@ -1,7 +1,8 @@
 -- What may be done before the next round of a file's game.
 use Rattle.std.proofs.Common.{◌≡◌, ◌⊎◌, inl, inr, ℕ, List, Option, Some, None, refl, subst, sym}
-use Rattle.desk_base.specs.NextRound.{IsComing}
-use Rattle.desk_base.specs.declared.next_round.Coming.{Coming}
+use Rattle.desk_base.specs.Played.{moment_after}
+use Rattle.desk_base.specs.Positions.{IsAt}
+use Rattle.desk_base.specs.declared.positions.Position.{Position}
 use Rattle.page_lays.specs.NextRound.{IsMayAt, IsMayIn, IsMayNext}
 use Rattle.page_lays.specs.declared.may.May.{May}
 use Rattle.rounds.specs.declared.game.End.{End}
@@ -9,15 +10,9 @@ use Rattle.rounds.specs.declared.game.End.TheVariants.{Awaiting, Bank, Bankrupt}
 use Rattle.tables.specs.declared.roster.Company.{Company}
 use Rattle.tables.specs.declared.round.Round.{Round}
 
--- the sheets of a game before a round are those of its file
-file_is : (file : List ℕ) (after : Option Round) (coming : Coming) → IsComing file after coming
-    → coming.sheets.now ≡ file
-file_is file None coming is = is.sheets
-file_is file (Some after) coming is = is.sheets
-
 -- what may be done in a game that awaits a round is what may be done next
-pub is_may_next : (file : List ℕ) (after : Option Round) (companies : List Company) (round : Round) (coming : Coming)
-    (may : May) → IsComing file after coming → coming.end ≡ Awaiting round
+pub is_may_next : (file : List ℕ) (after : Option Round) (companies : List Company) (round : Round) (coming : Position)
+    (may : May) → IsAt file (moment_after after) coming → coming.end ≡ Awaiting round
     → IsMayIn companies round coming.sheets.now coming.history may → IsMayNext file after companies (Some may)
 is_may_next file after companies round coming may is_coming awaits is_may =
     record {
@@ -25,13 +20,13 @@ is_may_next file after companies round coming may is_coming awaits is_may =
       is_coming = is_coming;
       is_may =
           subst (λ (end : End). IsMayAt companies file coming.history end (Some may)) (sym awaits)
-          (subst (λ (its : List ℕ). IsMayIn companies round its coming.history may) (file_is file after coming is_coming)
+          (subst (λ (its : List ℕ). IsMayIn companies round its coming.history may) is_coming.sheets
           is_may);
     }
 
 -- and once a game is over nothing
-pub is_over : (file : List ℕ) (after : Option Round) (companies : List Company) (coming : Coming)
-    → IsComing file after coming → (coming.end ≡ Bank) ⊎ (coming.end ≡ Bankrupt)
+pub is_over : (file : List ℕ) (after : Option Round) (companies : List Company) (coming : Position)
+    → IsAt file (moment_after after) coming → (coming.end ≡ Bank) ⊎ (coming.end ≡ Bankrupt)
     → IsMayNext file after companies None
 is_over file after companies coming is_coming over =
     record {

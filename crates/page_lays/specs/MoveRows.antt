@@ -1,6 +1,6 @@
 -- The lays and tokens of a company as rows: those that it may make where its turn has come to, all of them and no others,
 -- lays first, each with its price. Those on a hex keep their order.
-use Rattle.std.specs.Prelude.{◌≡◌, Bool, List, ◌++◌, map}
+use Rattle.std.specs.Prelude.{◌≡◌, Bool, true, false, List, ◌++◌, map}
 use Rattle.board.specs.LayRules.{IsLayAnswer}
 use Rattle.board.specs.TokenRules.{IsTokenAnswer}
 use Rattle.board_state.specs.MapState.{MapState, with_lay, with_token}
@@ -19,7 +19,18 @@ use Rattle.order_grammar.specs.declared.play.PlayOrder.TheVariants as play
 use Rattle.page_lays.specs.declared.move_lines.Line.{Line}
 use Rattle.page_lays.specs.declared.move_rows.Move.{Move}
 use Rattle.page_lays.specs.declared.move_rows.Move.TheVariants as move
+use Rattle.page_lays.specs.declared.move_rows.MoveKind.{MoveKind}
+use Rattle.page_lays.specs.declared.move_rows.MoveKind.TheVariants.{Lays, Tokens, Both}
 use Rattle.tables.specs.declared.roster.Company.{Company}
+
+-- a lay or a token is of this kind
+abbrev pub is_of : Move → MoveKind → Bool
+is_of (move.Lay lay) Lays = true
+is_of (move.Lay lay) Tokens = false
+is_of (move.Lay lay) Both = true
+is_of (move.Token place) Lays = false
+is_of (move.Token place) Tokens = true
+is_of (move.Token place) Both = true
 
 -- the hex on which a lay or a token is
 abbrev pub hex_of_move : Move → Hex

@@ -1,8 +1,9 @@
 -- What may be done in a round that comes: before an operating round the standing lines of the players and the turns of the
 -- companies, before another what each player may do in their first turn.
 use Rattle.std.specs.Prelude.{◌≡◌, ℕ, Bool, List, [], Option, Some, None}
-use Rattle.desk_base.specs.NextRound.{IsComing}
-use Rattle.desk_base.specs.declared.next_round.Coming.{Coming}
+use Rattle.desk_base.specs.Played.{moment_after}
+use Rattle.desk_base.specs.Positions.{IsAt}
+use Rattle.desk_base.specs.declared.positions.Position.{Position}
 use Rattle.desk_may.specs.Offerers.{presidents_of}
 use Rattle.foresight.specs.Ahead.{opened_state}
 use Rattle.page_lays.specs.Players.{ArePlayersIn, AreStandingIn}
@@ -43,6 +44,6 @@ IsMayAt companies file game Bankrupt may = may ≡ None
 -- what may be done in the round that comes in the game of a file after a round, or after the last that it plays if none
 -- is named
 pub record IsMayNext (file : List ℕ) (after : Option Round) (companies : List Company) (may : Option May) : Type 0 where
-  pub coming : Coming
-  pub is_coming : IsComing file after coming
+  pub coming : Position
+  pub is_coming : IsAt file (moment_after after) coming
   pub is_may : IsMayAt companies file coming.history coming.end may

@@ -1,5 +1,6 @@
 -- What each player may do in a round that comes, apart from their companies: in an operating round the standing lines; in an
--- opening or a stock round also the orders at the head of their first turn, in the order of turns, if those before them pass.
+-- opening or a stock round also the orders at the start of their first turn, in the order of turns,
+-- if those before them pass.
 use Rattle.std.specs.Prelude.{◌≡◌, ℕ, zero, suc, false, List, [], ◌∷◌, ◌++◌, None, map}
 use Rattle.events.specs.declared.event.Event.TheVariants as event
 use Rattle.foresight.specs.FirstTurn.{after_passes, seat_after}
@@ -19,7 +20,7 @@ abbrev pub head_rows : Game → Round → Seat → List Row
 head_rows game (Opening number) seat = map (opening_row game seat false) (opening_orders game.events)
 head_rows game other seat = map (stock_row game seat None) (stock_orders game.events seat)
 
--- what is told of a player at the head of their turn: their standing lines, and the orders of the turn
+-- what is told of a player at the start of their turn: their standing lines, and the orders of the turn
 pub record IsPlayerAt (round : Round) (game : Game) (seat : Seat) (player : Player) : Type 0 where
   pub its : player.seat ≡ seat
   pub standing : player.standing.items ≡ standing_rows game.events seat round

@@ -1,6 +1,7 @@
 -- The turns of the companies in an operating round that comes, in operating order: of each company that is asked for what it
--- may lay, place and buy, at the head of its orders if nobody orders anything before. Trains are those once it has withheld,
--- since a TRAIN line withholds first.
+-- may lay, place and buy, at the start of its orders if nobody orders anything before. Trains are
+-- those once it has withheld, since a TRAIN line withholds first. What its runs bring is by the
+-- game at the start of its orders.
 use Rattle.std.specs.Prelude.{◌≡◌, ◌↔◌, ◌⊎◌, ◌==◌, ◌||◌, ℕ, zero, suc, Bool, true, false, IsTrue, Some, None}
 use Rattle.std.specs.Prelude.{List, [], ◌∷◌, ◌++◌, length, map}
 use Rattle.std.specs.List.{list_any}
@@ -9,6 +10,7 @@ use Rattle.forced_purchase.specs.declared.operator.Operator.{Operator}
 use Rattle.foresight.specs.Ahead.{AheadState, HasEnded, HasTurn, IsBehindDraft, OrdersState, withheld_in}
 use Rattle.market.specs.OperatingOrder.{next_company}
 use Rattle.operating.specs.TurnEnd.{IsDue}
+use Rattle.page_lays.specs.Earned.{earned_by}
 use Rattle.page_lays.specs.MoveRows.{AreMovesIn, row_of}
 use Rattle.page_lays.specs.declared.company_turns.Turn.{Turn}
 use Rattle.tables.specs.Roster.{same_company}
@@ -20,12 +22,13 @@ use Rattle.totals.specs.Shares.{president_of}
 abbrev pub is_wanted : List Company → Company → Bool
 is_wanted companies company = (length companies == 0) || list_any (same_company company) companies
 
--- what is told of a company at the head of its orders
+-- what is told of a company at the start of its orders
 pub record IsTold (orders : OrdersState) (turn : Turn) : Type 0 where
   pub by : turn.by ≡ orders.by
   pub moves : AreMovesIn orders.turn orders.by.company (map row_of turn.map.lines.items)
   pub privates : turn.head.privates.items ≡ private_rows_of orders.turn.game orders.by.company
   pub trains : turn.trains.items ≡ train_rows_of (withheld_in orders).turn.game orders.by.company
+  pub earned : turn.earned ≡ earned_by orders.turn.game orders.by
   pub must_buy : IsTrue turn.must_buy ↔ IsDue (withheld_in orders).turn.game orders.by.company
 
 -- the turn of a company of which is told, by its president

@@ -1,5 +1,5 @@
 //! The companies of the next operating round in their order, each with what it may lay, place and
-//! buy at the head of its orders.
+//! buy at the start of its orders.
 ghost use Rattle.std.specs.Prelude.{◌≡◌, [], IfOk, None, OnOk, Some, length, map};
 ghost use Rattle.std.specs.List.{list_any};
 ghost use Rattle.desk_may.specs.OperatingLines.{private_rows_of};
@@ -13,13 +13,15 @@ ghost use Rattle.sheets.specs.File.{players_of};
 ghost use Rattle.tables.specs.Roster.{same_company};
 ghost use Rattle.totals.specs.Shares.{president_of};
 
+use crate::earned::{Earned, earned_in};
 use crate::move_lines::{Line, lines_of};
-use crate::move_rows::rows_of;
-use board_state::same_company;
-use desk_base::{Coming, trains_of};
+use crate::move_rows::{MoveKind, rows_of};
+use board_state::{same_company, same_hex};
+use desk_base::{Position, trains_of};
 use desk_may::{Progress, Trains, push_until_then};
 use forced_purchase::Operator;
 use foresight::{Draft, OrdersAhead, RoundAhead};
+use map_tables::Hex;
 use moves::{Row, private_rows, train_rows};
 use std::alloc::{AllocError, Global};
 use tables::{COMPANIES, Company, Money, Round, Seat};
@@ -29,15 +31,17 @@ use tables::{COMPANIES, Company, Money, Round, Seat};
 pub(crate) struct Turn {
     pub(crate) by: Operator,
     pub(crate) head: Head,
-    /// What it may do on the map at the head of its orders.
+    /// What it may do on the map at the start of its orders.
     pub(crate) map: OnMap,
+    /// What decides what its best runs bring there.
+    pub(crate) earned: Earned,
     /// The trains that it may buy, and may not, once it has withheld.
     pub(crate) trains: Vec<Row>,
     /// Whether it must buy a train at the end of its turn, if it orders nothing.
     pub(crate) must_buy: bool,
 }
 
-/// A company at the head of its orders.
+/// A company at the start of its orders.
 #[derive(Drop)]
 pub(crate) struct Head {
     /// The number of events so far.
@@ -88,7 +92,7 @@ fn is_among(companies: &[Company], company: Company) -> bool
 /// fails.
 pub(crate) fn turns_of<P: Progress>(
     alloc: Global,
-    coming: Coming,
+    coming: Position,
     round: Round,
     wanted: Wanted,
     progress: &mut P,
@@ -99,7 +103,7 @@ pub(crate) fn turns_of<P: Progress>(
         IfOk result (λ turns. AreTurnsIn (is_wanted companies)
         (opened_state before.sheets.now None round before.history) turns.items) }
 {
-    let Coming {
+    let Position {
         sheets,
         history,
         ..
@@ -194,7 +198,7 @@ fn push_turn_by<'a, P: Progress>(
     orders.finish()
 }
 
-/// Returns the turn of a company at the head of its orders, and the state once the company has
+/// Returns the turn of a company at the start of its orders, and the state once the company has
 /// withheld.
 fn turn_at<'a, P: Progress>(
     alloc: Global,
@@ -209,6 +213,7 @@ fn turn_at<'a, P: Progress>(
     let by = orders.by();
     let head = head_of(alloc, &orders, from)?;
     let map = on_map(alloc, &orders, is_best, progress)?;
+    let earned = earned_in(&orders);
     let orders = orders.withheld()?;
     let trains = train_rows(alloc, orders.history(), by.company)?;
     let (orders, must_buy) = orders.must_buy()?;
@@ -216,6 +221,7 @@ fn turn_at<'a, P: Progress>(
         by,
         head,
         map,
+        earned,
         trains,
         must_buy,
     };
@@ -245,7 +251,7 @@ fn head_of(alloc: Global, orders: &OrdersAhead, from: usize) -> Result<Head, All
     })
 }
 
-/// Returns what a company may do on the map at the head of its orders.
+/// Returns what a company may do on the map at the start of its orders.
 fn on_map<P: Progress>(
     alloc: Global,
     orders: &OrdersAhead,
@@ -271,4 +277,31 @@ fn on_map<P: Progress>(
     let now = Some(trains.best_now()?);
     let lines = lines_of(alloc, rows.as_slice(), Some(trains), progress)?;
     Ok(OnMap { now, lines })
+}
+
+impl OnMap {
+    /// Returns the most by which a lay or a token of a kind on a hex raises what the best runs
+    /// earn, in dollars; 0 if none raises it, and `None` if there is none.
+    pub(crate) fn gain_on(&self, hex: Hex, kind: MoveKind) -> Option<Money> {
+        let mut most = None;
+        for line in &self.lines {
+            if same_hex(line.row.what.hex(), hex) && line.row.what.is_of(kind) {
+                let gain = self.gain_of(line);
+                most = match most {
+                    Some(other) if other > gain => Some(other),
+                    _ => Some(gain),
+                };
+            }
+        }
+        most
+    }
+
+    /// Returns by how much a lay or a token raises what the best runs earn, in dollars; 0 if it
+    /// doesn't, or if that was not requested.
+    pub(crate) fn gain_of(&self, line: &Line) -> Money {
+        match (self.now, line.best) {
+            (Some(now), Some(best)) if best > now => best.saturating_sub(now),
+            _ => 0,
+        }
+    }
 }

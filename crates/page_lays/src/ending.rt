@@ -1,18 +1,18 @@
 //! The end of a page that shows what may be done.
-ghost use Rattle.std.specs.Prelude.{IfOk};
+ghost use Rattle.std.specs.Prelude.{IfErr, IfOk};
+ghost use Rattle.desk_base.specs.Played.{IsMomentFault, moment_after};
 ghost use Rattle.markup.specs.Reading.{IsWellFormed};
 
 use crate::company_turns::Wanted;
 use crate::hexes_part::{put_hexes, put_words_of};
 use crate::may::may_in;
 use crate::may_part::put_may;
-use desk_base::{DeskFault, Stood, play_behind, stood_at_last, stood_now};
+use desk_base::{DeskFault, Moment, Stood, position_at};
 use desk_may::Progress;
 use map_tables::Hex;
 use markup::PagePiece::Words;
 use markup::{Part, Tag, Writer, begin_section};
 use page_map::{Scene, begin_hex, begin_hexes};
-use rounds::Play;
 use sheets::{Sheets, collect};
 use std::alloc::Global;
 
@@ -22,6 +22,7 @@ use std::alloc::Global;
 ///
 /// Fails with `File` if the file is refused, with `Round` if the named round was not played, and
 /// with `Memory` if allocation fails.
+#[tactic(auto, using(desk_base::proofs::Refusals::none_where_it_fails, desk_base::proofs::PlayedLemmas::no_moment_where_it_fails))]
 pub fn end_page<P: Progress>(
     alloc: Global,
     out: Writer,
@@ -30,7 +31,8 @@ pub fn end_page<P: Progress>(
     words: &[Vec<Part>],
     progress: &mut P,
 ) -> Result<Vec<u8>, DeskFault>
-    ensures { IfOk result (λ page. IsWellFormed page.items) }
+    ensures well_formed { IfOk result (λ page. IsWellFormed page.items) }
+    ensures fault { IfErr result (IsMomentFault file.now (moment_after wanted.entry.after)) }
 {
     let mut out = out;
     let sheets = collect(alloc, file)?;
@@ -46,33 +48,11 @@ fn put_moves<P: Progress>(
     wanted: Wanted,
     words: &[Vec<Part>],
     progress: &mut P,
-) -> Result<(), DeskFault> {
-    match wanted.after {
-        Some(round) => {
-            let play = play_behind(alloc, sheets, round)?;
-            put_moves_in(alloc, out, &play, wanted, words, progress)
-        }
-        None => {
-            let game = rounds::play(alloc, sheets)?;
-            let stood = stood_at_last(&game);
-            put_moves_of(alloc, out, &stood, wanted, words, progress)
-        }
-    }
-}
-
-/// Adds what may be done in a game played up to here.
-fn put_moves_in<P: Progress>(
-    alloc: Global,
-    out: &mut Writer,
-    play: &Play,
-    wanted: Wanted,
-    words: &[Vec<Part>],
-    progress: &mut P,
-) -> Result<(), DeskFault> {
-    match stood_now(play) {
-        Some(stood) => put_moves_of(alloc, out, &stood, wanted, words, progress),
-        None => Err(DeskFault::Round),
-    }
+) -> Result<(), DeskFault>
+    ensures { IfErr result (IsMomentFault sheets.now (moment_after wanted.entry.after)) }
+{
+    let position = position_at(alloc, sheets, Moment::after(wanted.after))?;
+    put_moves_of(alloc, out, &position.stood(), wanted, words, progress)
 }
 
 /// Adds what may be done in a game at a moment.
@@ -83,7 +63,9 @@ fn put_moves_of<P: Progress>(
     wanted: Wanted,
     words: &[Vec<Part>],
     progress: &mut P,
-) -> Result<(), DeskFault> {
+) -> Result<(), DeskFault>
+    ensures { IfErr result (IsMomentFault stood.now.sheets.now (moment_after wanted.entry.after)) }
+{
     let scene = Scene::of(stood);
     let Some(may) = may_in(alloc, stood.sheets, wanted, progress)? else {
         put_over(out, &scene, words);

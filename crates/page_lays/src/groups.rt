@@ -5,11 +5,10 @@ use crate::move_lines::Line;
 use crate::move_rows::Move;
 use crate::offers::is_allowed;
 use crate::pictures::put_picture;
-use map_tables::Hex;
-use markup::PagePiece::{Hex as Hexed, Name, Number, Round as Named, Words};
+use markup::PagePiece::{Name, Number, Round as Named, Words};
 use markup::{Attr, Tag, Writer};
 use moves::{Answer, Row};
-use order_grammar::{Offer, PlayOrder, print_play_order};
+use order_grammar::{PlayOrder, print_play_order};
 use page_map::Scene;
 use std::alloc::{AllocError, Global};
 use tables::{Company, Money, Round, Seat};
@@ -35,9 +34,8 @@ pub(crate) struct Of<'p, 's, 'n> {
     pub(crate) presidents: &'p [Option<Seat>],
 }
 
-/// Begins a group of lines, with its label.
-fn begin_group(out: &mut Writer, of: Of, block: Block) {
-    out.begin_as(Tag::Paragraph, "do");
+/// Adds to an element that it is a group, and as its label the lines of a sheet above its lines.
+pub(crate) fn put_label(out: &mut Writer, of: Of, block: Block) {
     out.value(Attr::Role, &[Words("group")]);
     let name = Name(of.scene.name(of.seat));
     out.value(
@@ -52,32 +50,19 @@ fn begin_group(out: &mut Writer, of: Of, block: Block) {
     out.within();
 }
 
-/// Adds a company's lines on a hex, if there are any. Fails only if allocation fails.
-pub(crate) fn put_group_on(
-    alloc: Global,
-    out: &mut Writer,
-    of: Of,
-    turn: &Turn,
-    lines: &[Line],
-) -> Result<(), AllocError> {
-    if lines.is_empty() {
-        return Ok(());
-    }
-    begin_group(out, of, Block::Company(turn.by.company));
-    out.element(Tag::Bold, &[Words(turn.by.company.code())]);
-    for line in lines {
-        put_move(alloc, out, turn.map.now, line)?;
-    }
-    out.end();
-    Ok(())
+/// Begins a group of lines, with what they are.
+pub(crate) fn begin_group(out: &mut Writer, of: Of, block: Block, what: &'static str) {
+    out.begin_as(Tag::Paragraph, "do");
+    put_label(out, of, block);
+    out.element(Tag::Bold, &[Words(what)]);
 }
 
 /// Adds a lay or a token: its order as a button, its price, and by how much it raises the revenue
-/// of the best runs.
-fn put_move(
+/// of the best runs. Fails only if allocation fails.
+pub(crate) fn put_move(
     alloc: Global,
     out: &mut Writer,
-    now: Option<Money>,
+    turn: &Turn,
     line: &Line,
 ) -> Result<(), AllocError> {
     let text = line.row.what.text(alloc)?;
@@ -89,14 +74,17 @@ fn put_move(
     }
     out.text(text.as_slice());
     out.end();
-    out.put(&[Words(" "), Number(line.row.price)]);
-    if let (Some(now), Some(best)) = (now, line.best)
-        && best > now
-    {
-        out.put(&[Words(" +"), Number(best.saturating_sub(now))]);
-    }
+    out.put(&[Words(" $"), Number(line.row.price)]);
+    put_gain(out, turn.map.gain_of(line));
     out.end();
     Ok(())
+}
+
+/// Adds by how much the best runs earn more, if they do.
+pub(crate) fn put_gain(out: &mut Writer, gain: Money) {
+    if gain > 0 {
+        out.put(&[Words(" +$"), Number(gain)]);
+    }
 }
 
 /// Adds the rows that no rule refuses as a group, if there are any. Fails only if allocation fails.
@@ -105,15 +93,13 @@ pub(crate) fn put_group(
     out: &mut Writer,
     of: Of,
     block: Block,
+    what: &'static str,
     rows: &[Row],
 ) -> Result<(), AllocError> {
     if !rows.iter().any(|row| is_allowed(of.presidents, row.answer)) {
         return Ok(());
     }
-    begin_group(out, of, block);
-    if let Block::Company(company) = block {
-        out.element(Tag::Bold, &[Words(company.code())]);
-    }
+    begin_group(out, of, block, what);
     for row in rows {
         if is_allowed(of.presidents, row.answer) {
             put_row(alloc, out, of, row)?;
@@ -123,57 +109,45 @@ pub(crate) fn put_group(
     Ok(())
 }
 
-/// Adds a row with its price, and the offer that it needs.
+/// Adds a row as a button, with its price or what it brings, and the offer that it needs.
 fn put_row(alloc: Global, out: &mut Writer, of: Of, row: &Row) -> Result<(), AllocError> {
-    match row.answer {
-        Answer::Obeyed { price } => put_order(alloc, out, row.order, price),
+    let (price, needed) = match row.answer {
+        Answer::Obeyed { price } => (price, None),
         Answer::WithConsent {
             price,
             giver,
             offer,
-        } => {
-            put_order(alloc, out, row.order, price)?;
-            put_offer(alloc, out, of.scene.name(giver), offer)
-        }
-        Answer::Refused(_) => Ok(()),
+        } => (price, Some((giver, offer))),
+        Answer::Refused(_) => return Ok(()),
+    };
+    out.put(&[Words(" ")]);
+    out.begin(Tag::Span);
+    put_button(alloc, out, row.order)?;
+    if let PlayOrder::Sell { .. } = row.order {
+        out.put(&[Words(" brings")]);
     }
+    out.put(&[Words(" $"), Number(price)]);
+    if let Some((giver, offer)) = needed {
+        let mut text = Vec::new(alloc);
+        print_play_order(&mut text, PlayOrder::Offer(offer))?;
+        out.put(&[Words(" (if "), Name(of.scene.name(giver)), Words(" has ")]);
+        out.text(text.as_slice());
+        out.put(&[Words(")")]);
+    }
+    out.end();
+    Ok(())
 }
 
-/// Adds an order as a button, with its price.
-fn put_order(
+/// Adds an order as a button. Fails only if allocation fails.
+pub(crate) fn put_button(
     alloc: Global,
     out: &mut Writer,
     order: PlayOrder,
-    price: Money,
 ) -> Result<(), AllocError> {
     let mut text = Vec::new(alloc);
     print_play_order(&mut text, order)?;
-    out.put(&[Words(" ")]);
-    out.begin(Tag::Span);
     out.begin(Tag::Button);
     out.text(text.as_slice());
     out.end();
-    out.put(&[Words(" "), Number(price)]);
-    out.end();
     Ok(())
-}
-
-/// Adds the offer that an order needs.
-fn put_offer(alloc: Global, out: &mut Writer, name: &[u8], offer: Offer) -> Result<(), AllocError> {
-    let mut text = Vec::new(alloc);
-    print_play_order(&mut text, PlayOrder::Offer(offer))?;
-    out.put(&[Words(" (if "), Name(name), Words(" has ")]);
-    out.text(text.as_slice());
-    out.put(&[Words(")")]);
-    Ok(())
-}
-
-/// Adds a link to a hex.
-pub(crate) fn put_link(out: &mut Writer, hex: Hex) {
-    out.put(&[Words(" ")]);
-    out.begin(Tag::Anchor);
-    out.value(Attr::Href, &[Words("#hex-"), Hexed(hex)]);
-    out.within();
-    out.put(&[Hexed(hex)]);
-    out.end();
 }

@@ -1,6 +1,6 @@
 //! The hexes in words, and under each what companies may lay and place there.
 
-use crate::groups::put_group_on;
+use crate::groups::{Block, begin_group, put_move};
 use crate::may::May;
 use crate::move_lines::lines_on;
 use crate::pictures::put_tiles;
@@ -27,8 +27,14 @@ pub(crate) fn put_hexes(
         put_words_of(out, scene, hex, words.get(number));
         for turn in &may.turns {
             let lines = lines_on(alloc, turn.map.lines.as_slice(), hex)?;
-            let of = may.of(scene, turn.by.president);
-            put_group_on(alloc, out, of, turn, lines.as_slice())?;
+            if !lines.is_empty() {
+                let (of, company) = (may.of(scene, turn.by.president), turn.by.company);
+                begin_group(out, of, Block::Company(company), company.code());
+                for line in &lines {
+                    put_move(alloc, out, turn, line)?;
+                }
+                out.end();
+            }
         }
         out.end();
     }

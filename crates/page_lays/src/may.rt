@@ -1,5 +1,6 @@
 //! What may be done in the next round.
-ghost use Rattle.std.specs.Prelude.{◌≡◌, IfOk, length};
+ghost use Rattle.std.specs.Prelude.{◌≡◌, IfErr, IfOk, length};
+ghost use Rattle.desk_base.specs.Played.{IsMomentFault, moment_after};
 ghost use Rattle.history.specs.Sound.{IsSound};
 ghost use Rattle.page_lays.specs.NextRound.{IsMayIn, IsMayNext};
 ghost use Rattle.sheets.specs.File.{players_of};
@@ -8,7 +9,7 @@ use crate::company_turns::{Turn, Wanted, turns_of};
 use crate::groups::Of;
 use crate::offers::presidents;
 use crate::players::{Player, players_in_operating, players_in_turns};
-use desk_base::{Coming, DeskFault, coming_in};
+use desk_base::{DeskFault, Moment, Position, position_at};
 use desk_may::Progress;
 use page_map::Scene;
 use rounds::End;
@@ -52,10 +53,11 @@ pub(crate) fn may_in<P: Progress>(
     wanted: Wanted,
     progress: &mut P,
 ) -> Result<Option<May>, DeskFault>
-    ensures { let wanted = wanted.entry in
+    ensures may { let wanted = wanted.entry in
         IfOk result (IsMayNext sheets.now wanted.after wanted.companies.now) }
+    ensures fault { IfErr result (IsMomentFault sheets.now (moment_after wanted.entry.after)) }
 {
-    let coming = coming_in(alloc, sheets, wanted.after)?;
+    let coming = position_at(alloc, sheets, Moment::after(wanted.after))?;
     match coming.end {
         End::Awaiting(round) => Ok(Some(may_before(alloc, coming, round, wanted, progress)?)),
         End::Bank | End::Bankrupt => Ok(None),
@@ -65,7 +67,7 @@ pub(crate) fn may_in<P: Progress>(
 /// Returns what may be done in the next round of a game. Fails only if allocation fails.
 fn may_before<P: Progress>(
     alloc: Global,
-    coming: Coming,
+    coming: Position,
     round: Round,
     wanted: Wanted,
     progress: &mut P,

@@ -8,7 +8,7 @@ ghost use Rattle.page_lays.specs.MoveRows.{is_on, row_of, with_move};
 use crate::move_rows::Move;
 use board_state::same_hex;
 use desk_may::{Progress, Trains};
-use map_tables::{Hex, Lay, laid_links};
+use map_tables::{Hex, laid_links};
 use moves::Priced;
 use std::alloc::{AllocError, Global};
 use tables::Money;
@@ -75,14 +75,13 @@ fn best_after(trains: Trains, what: Move) -> Result<Money, AllocError>
 /// look alike.
 fn is_same_track(a: Move, b: Move) -> bool {
     match (a, b) {
-        (Move::Lay(a), Move::Lay(b)) => has_same_track(a, b),
+        (Move::Lay(a), Move::Lay(b)) => {
+            a.hex == b.hex
+                && a.tile == b.tile
+                && laid_links(a).as_slice() == laid_links(b).as_slice()
+        }
         _ => false,
     }
-}
-
-/// Returns whether two lays give the same track.
-fn has_same_track(a: Lay, b: Lay) -> bool {
-    a.hex == b.hex && a.tile == b.tile && laid_links(a).as_slice() == laid_links(b).as_slice()
 }
 
 /// Returns the lines on a hex, in order. Fails only if allocation fails.

@@ -2,7 +2,7 @@
 ghost use Rattle.std.specs.Prelude.{◌≡◌, ◌++◌, IfOk, OnOk, map};
 ghost use Rattle.order_grammar.specs.Print.{spelling_of};
 ghost use Rattle.order_grammar.specs.declared.order.Order.TheVariants.{Play};
-ghost use Rattle.page_lays.specs.MoveRows.{AreMovesIn, hex_of_move, lay_row, order_of_move};
+ghost use Rattle.page_lays.specs.MoveRows.{AreMovesIn, hex_of_move, is_of, lay_row, order_of_move};
 ghost use Rattle.page_lays.specs.MoveRows.{token_row};
 
 use desk_base::board_at;
@@ -21,7 +21,26 @@ pub(crate) enum Move {
     Token(Place),
 }
 
+/// Which lays and tokens are meant.
+#[derive(Clone, Copy)]
+pub(crate) enum MoveKind {
+    Lays,
+    Tokens,
+    Both,
+}
+
 impl Move {
+    /// Returns whether it is meant.
+    pub(crate) fn is_of(self, kind: MoveKind) -> bool
+        ensures { result ≡ is_of self kind }
+    {
+        match (self, kind) {
+            (_, MoveKind::Both) => true,
+            (Move::Lay(_), MoveKind::Lays) | (Move::Token(_), MoveKind::Tokens) => true,
+            (Move::Lay(_), MoveKind::Tokens) | (Move::Token(_), MoveKind::Lays) => false,
+        }
+    }
+
     /// Returns its hex.
     pub(crate) fn hex(self) -> Hex
         ensures { result ≡ hex_of_move self }

@@ -55,7 +55,7 @@ fn standing_player(
     })
 }
 
-/// Returns what each player may do at the head of their first turn of the next opening or stock
+/// Returns what each player may do at the start of their first turn of the next opening or stock
 /// round, in the order of turns, if the players before them pass. Fails only if allocation fails.
 pub(crate) fn players_in_turns(
     alloc: Global,
@@ -81,7 +81,7 @@ pub(crate) fn players_in_turns(
     Ok(players)
 }
 
-/// Returns what a player may do at the head of their turn.
+/// Returns what a player may do at the start of their turn.
 fn player_at(
     alloc: Global,
     history: &History,

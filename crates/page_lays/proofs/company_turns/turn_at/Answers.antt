@@ -17,6 +17,7 @@ returns-clause-told g c =
           ∙ ap (λ (game : Game). train_rows_of game c.by-by.result.company)
           (c.history.ensures.game ∙ ap (λ (its : OrdersState). its.turn.game) c.in_ok-orders.ensures)
           ∙ ap (λ (by : Operator). train_rows_of (withheld_in orders).turn.game by.company) c.by-by.ensures;
+      earned = c.earned_in-earned.ensures;
       must_buy = subst (λ (its : OrdersState). IsTrue c.in_ok-orders-2.must_buy ↔ IsDue its.turn.game its.by.company)
           c.in_ok-orders.ensures c.in_ok-orders-2.ensures.due;
     }
