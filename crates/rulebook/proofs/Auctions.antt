@@ -22,7 +22,7 @@ higher_bid = refl
 pub no_limits : auction 75 80 ≡ (seat_at 2, pos 80)
 no_limits = refl
 
--- BOB's limit of 60 counts as his bid of 75
+-- BOB's limit of 60 counts as their bid of 75
 pub limit_under_the_bid : auction 75 100 ≡ (seat_at 2, pos 80)
 limit_under_the_bid = refl
 

@@ -33,7 +33,7 @@ prr_is_started = refl
 pub six_are_left : shares_of happened Pennsylvania place.InitialOffering ≡ pos 6
 six_are_left = refl
 
--- BOB has as many as ANN, who stays president; with one more he would preside
+-- BOB has as many as ANN, who stays president; with one more BOB would preside
 pub ann_stays : successor_of 3 happened Pennsylvania (seat_at 0) ≡ seat_at 0
 ann_stays = refl
 

@@ -3,7 +3,7 @@
 -- last is 50, in OR1.1, until it operates again. Once it has run for 40 in OR1.2, a `LAY` comes too
 -- late since it has run, and once it has paid, a `WITHHOLD` comes too late.
 use Rattle.std.proofs.Common.{◌≡◌, refl, true, false, List, [], ◌∷◌, ◌++◌, Some, None}
-use Rattle.desk_state.specs.Earnings.{earnings_of}
+use Rattle.desk_cells.specs.Earnings.{earnings_of}
 use Rattle.desk_base.specs.declared.cause.Cause.TheVariants as cause
 use Rattle.desk_why.specs.Cause.{cause_of_lay, cause_of_pay}
 use Rattle.desk_why.specs.Done.{last_done}

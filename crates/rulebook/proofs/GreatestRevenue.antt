@@ -84,7 +84,7 @@ at_stop_is : (stop : Stop) → at_stop small_map stop ≡ standing_in (joined_he
 at_stop_is stop = ap (λ (here : InHex). get_or here.stops (stop_index_of stop.number) no_stop)
     (in_hex_is (joined_hex stop.hex))
 
--- the links of each hex are in order, no stop is worth over 80, and no track leads to a second stop
+-- the links of each hex are in order, no stop is worth more than 80, and no track leads to a second stop
 in_order : (hex : Hex) → AreLinksOf hex (on_map hex).links
 in_order H10 = record { in_order = refl; here = (refl, (refl, tt)); few = lit≤ tt }
 in_order H12 = record { in_order = refl; here = (refl, (refl, (refl, tt))); few = lit≤ tt }

@@ -32,7 +32,7 @@ is_printed = refl
 pub sale : reading_of (codes "SELL PRR 02") ≡ Ok (order.Play (play.Sell Pennsylvania 2))
 sale = refl
 
--- a first word that no form has (G3), words of no form (G4), a number over 99,999 (G5), a tab (G2)
+-- a first word that no form has (G3), words of no form (G4), a number more than 99,999 (G5), a tab (G2)
 pub no_form : reading_of (codes "SELLS PRR 2") ≡ Err fault.UnknownWord
 no_form = refl
 

@@ -12,7 +12,7 @@ use Rattle.events.specs.declared.event.Holder.TheVariants as holder
 use Rattle.events.specs.declared.event.TrainSeller.TheVariants as seller
 use Rattle.events.specs.declared.ruling.Ruling.TheVariants.{Obeyed}
 use Rattle.map_tables.specs.Hex.{site_of}
-use Rattle.map_tables.specs.Tile.{number_of_tile}
+use Rattle.map_tables.specs.Tile.{number_of_tile, printed}
 use Rattle.map_tables.specs.declared.hex.Hex.TheVariants.{H10, H12, H14}
 use Rattle.map_tables.specs.declared.lay.Lay.{Lay}
 use Rattle.map_tables.specs.declared.place.Place.{Place}
@@ -146,7 +146,7 @@ game events = record { seats = 3; events = events }
 pub printed_so :
     lines_of_round file 3 before happens
     ≡ codes "ROUND OR2.1\nREVENUE SV BOB 5\nANN 2 OBEYED LAY 9 H14 1\nLAID PRR 9 H14 1 0\nANN 3 OBEYED TOKEN H10.0\nTOKEN PRR H10.0 40\nANN 4 OBEYED RUN 2 H12.0 H10.0\nRUNS PRR 30\nANN 5 OBEYED PAY\nDIVIDEND PRR ANN 12\nDIVIDEND PRR BOB 6\nMOVES PRR 71 F8\nANN 6 OBEYED TRAIN 4 BANK\nTRAIN PRR 4 BANK 300\nPHASE 4\nRUSTED PRR 2\nRUSTED NYC 2\nRUSTED NYC 2\nRUSTED NYC 2\nRUSTED CO 2\nRUSTED CO 2\nPLAYER ANN        544  3  4  0  0  0  0  0  0  0\nPLAYER BOB        657  3  2  0  0  0  0  0  0  0 SV\nPLAYER CYD        800  0  0  0  0  0  0  0  0  0\nCOMPANY PRR    250  71  4  0 2 ANN 4\nBANK  11049\n"
-unfolding digits site_of number_of_tile players_of body_of content_of version_of written_lines is_blank begins
+unfolding digits site_of number_of_tile printed players_of body_of content_of version_of written_lines is_blank begins
     is_sheet_line operating_order_of left_aligned right_aligned bank_line cash_column codes_owned company_figures company_line
     company_lines counted_column holdings player_line player_lines shares_column trains_text
 printed_so = refl
@@ -271,7 +271,7 @@ turn =
 -- and that is the round
 pub played : IsOperatingRound file (Operating 2 1) (game before) (game (before ++ happens))
 unfolding is_sheet_line sheet_of players_of body_of content_of version_of written_lines is_blank begins
-    operating_order_of hexes hex_at site_of tile_numbered tiles number_of_tile
+    operating_order_of hexes hex_at site_of tile_numbered tiles number_of_tile printed
 played =
     record {
       turned = game (before ++ happens);

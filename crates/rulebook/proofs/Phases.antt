@@ -1,5 +1,5 @@
 -- Example for the chapter `new-phase`: the first 4 and the first 5.
--- PRR has a 2, CO two 2s and BM two 3s. NYC buys the first 4: the 2s leave play. Then ERIE, which
+-- PRR has a 2, CO two 2s and BM two 3s. NYC buys the first 4: the 2s are removed from the game. Then ERIE, which
 -- has two 3s, buys the first 5, while BOB, at seat 1, owns SV: it is closed, and ERIE, with three
 -- trains of two, gives up a 3.
 use Rattle.std.proofs.Common.{◌≡◌, refl, List, [], ◌∷◌, ◌++◌, Some}

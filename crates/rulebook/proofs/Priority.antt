@@ -1,5 +1,5 @@
 -- Example for the chapter `priority`: who has the first turn.
--- BOB, at seat 1, bids on DH. ANN, at seat 0, buys SV, and BOB gets CS for his bid. CYD passes.
+-- BOB, at seat 1, bids on DH. ANN, at seat 0, buys SV, and BOB gets CS for that bid. CYD passes.
 use Rattle.std.proofs.Common.{◌≡◌, refl, List, [], ◌∷◌, None}
 use Rattle.events.specs.declared.event.Event.{Event}
 use Rattle.events.specs.declared.event.Event.TheVariants as event

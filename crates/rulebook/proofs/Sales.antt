@@ -1,7 +1,7 @@
 -- Example for the chapter `sales`: sales of a president.
 -- It is the second stock round, and PRR is at A7, its par of 100. ANN presides with five shares,
 -- and BOB has one. If she sells three, the bank pays her 300 and the token moves down three
--- squares, to D7. If BOB had three, she would have strictly fewer after that, and he would preside.
+-- squares, to D7. If BOB had three, she would have strictly fewer after that, and BOB would preside.
 -- CYD has a share of BO, which is not started.
 use Rattle.std.proofs.Common.{◌≡◌, refl, ℕ, List, [], ◌∷◌, ◌++◌, ◌*◌, Option, Some, None}
 use Rattle.certs.specs.Sale.{is_not_held, is_over_five, must_stay, sale_judgement}
@@ -42,7 +42,7 @@ pub ann_sells_three :
     ∷ [])
 ann_sells_three = refl
 
--- the same, if BOB has three: he presides
+-- the same, if BOB has three: BOB presides
 pub bob_presides :
     after_sale (game (before 3)) (seat_at 0) Pennsylvania 3
     ≡ game

@@ -1,6 +1,6 @@
 //! A network of four stops, which is not a board.
 ghost use Rattle.std.specs.Prelude.{◌≡◌, false, true};
-ghost use Rattle.test_libraries.specs.FourStops.{at_stop_of, four_stops, on_map_in, spoke, standing_in};
+ghost use Rattle.test_umpire.specs.FourStops.{at_stop_of, four_stops, on_map_in, spoke, standing_in};
 ghost use Rattle.map_tables.specs.declared.place.StopNumber.TheVariants.{First};
 ghost use Rattle.reach.specs.Position.{at_stop};
 

@@ -1,23 +1,24 @@
 //! The examples at the roots of the desk's crates, word for word: `./check docs` compares them.
 
-use crate::support::FIRST;
 use desk_check::{Extent, check};
 use desk_moves::{read_company, read_hex, read_kind};
 use desk_round::round;
 use desk_state::read_round;
-use history::History;
 use map_tables::Hex;
-use moves::least_bid;
 use page::page;
 use page_all::page_of_all;
 use std::test::Fail;
-use tables::{Company, Kind, Private, Round};
+use tables::{Company, Kind, Round};
 
-#[test]
-fn moves_knows_the_least_bid(rt: HostRuntime) {
-    let history = History::start(rt.alloc(), 3);
-    assert_eq!(rt; least_bid(&history, Private::ChamplainStLawrence), 45);
-}
+/// ANN buys SV in the first opening round, and then all pass.
+const FIRST: &str = "GAME 1830 1
+PLAYERS ANN BOB CYD
+SHEET ANN PR1
+TURN
+BUY SV
+SHEET BOB PR1
+SHEET CYD PR1
+";
 
 #[test]
 fn desk_round_writes_a_round(rt: HostRuntime) {

@@ -1,10 +1,10 @@
 use Rattle.std.proofs.Common.{◌≡◌, ◌∙◌, ap, sym}
-use Rattle.test_libraries.specs.FourStops.{standing_in}
-use Rattle.test_libraries.proofs.FourStops.{at_stop_is, no_second}
+use Rattle.test_umpire.specs.FourStops.{standing_in}
+use Rattle.test_umpire.proofs.FourStops.{at_stop_is, no_second}
 use Rattle.map_tables.specs.Place.{joined_hex}
 use Rattle.map_tables.specs.declared.place.Stop.{Stop}
 use Rattle.map_tables.specs.declared.place.StopNumber.TheVariants.{First, Second}
-use Rattle.test_libraries.proofs.four_stops.standing_at.Goals as goal
+use Rattle.test_umpire.proofs.four_stops.standing_at.Goals as goal
 
 pub returns-in-First : goal.returns-in-First
 returns-in-First c =

@@ -12,7 +12,7 @@ use Rattle.map_tables.specs.declared.side.Side.{Side}
 use Rattle.map_tables.specs.declared.side.Side.TheVariants.{SouthWest, West, NorthWest, NorthEast, East, SouthEast}
 use Rattle.map_tables.specs.declared.track.TrackEnd.TheVariants.{Side as AtSide, Stop as AtStop}
 use Rattle.map_tables.specs.declared.track.Link.{Link}
-use Rattle.test_libraries.specs.declared.four_stops.Standing.{Standing}
+use Rattle.test_umpire.specs.declared.four_stops.Standing.{Standing}
 use Rattle.map_tables.specs.Place.{stop_index_of}
 use Rattle.map_tables.specs.declared.place.StopNumber.{StopNumber}
 use Rattle.reach.specs.Position.{InHex, Position, empty_hex, no_stop}

@@ -2,7 +2,7 @@
 use Rattle.std.proofs.Common.{◌≡◌, ◌∙◌, ap, sym, subst, refl, ◌≤◌, lit≤, get_or}
 use Rattle.std.proofs.lemmas.List.{get_or-map}
 use Rattle.map_tables.proofs.HexTables.{hex_at_index}
-use Rattle.test_libraries.specs.FourStops.{four_stops, on_map_in, standing_in}
+use Rattle.test_umpire.specs.FourStops.{four_stops, on_map_in, standing_in}
 use Rattle.map_tables.specs.Hex.{hexes, index_of}
 use Rattle.map_tables.specs.Laws.{AreLinksOf, NeighboursPair}
 use Rattle.map_tables.specs.Place.{joined_hex, stop_at, stop_index_of}

@@ -1,5 +1,0 @@
-use Rattle.test_libraries.proofs.FourStops.{lawful}
-use Rattle.test_libraries.proofs.four_stops.FourStopsNetwork.keeps_laws.Goals as goal
-
-pub returns : goal.returns
-returns c = lawful c.neighbours_pair.ensures
