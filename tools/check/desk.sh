@@ -82,7 +82,7 @@ play_runs() {
   "$program" report < "$scratch/written" > "$scratch/of-written"
   ! grep -qE ' OBEYED (IF .* )?RUN BEST$' "$scratch/of-written" || why+=' a RUN BEST is left;'
   cmp -s <(what_came "$report") <(what_came "$scratch/of-written") || why+=' it comes out otherwise;'
-  count "the best runs of $1, written out" "${why# }"
+  count "the best runs of $1, in full" "${why# }"
 }
 
 # what_came REPORT: what came of a game beside its rulings, and what each company earned in each round.
@@ -171,7 +171,7 @@ moves_games() {
   done
 }
 
-# try_moves DESK ROUNDS LINES GAME..: before the last rounds of games, so many of each, each row that this desk lists is ruled as it
+# try_moves DESK ROUNDS LINES GAME..: before the last rounds of games, so many of each, each row that this desk lists is decided as it
 # says, and of each company so many other lays and tokens are refused.
 try_moves() { take_over bench/moves -p "$program" -d "$1" -r "$2" -n "$3" "${@:4}"; }
 
@@ -247,7 +247,7 @@ check_desk() {
   side_by_side read_facts_of games/*.orders games/codes/*.orders
   side_by_side play_rounds games/*.orders
   side_by_side play_runs games/*.orders games/certificates/certs-*.orders
-  has_best games/best-run-of-two-trains.orders || count 'the best runs, written out' 'there are none'
+  has_best games/best-run-of-two-trains.orders || count 'the best runs, in full' 'there are none'
   make_games
   side_by_side try_every_word games/*.orders games/*/*.orders "$scratch"/made/*.orders
 }
@@ -274,7 +274,7 @@ desk_must_fail() {
   desk=$(desk_but 's/^and 2 findings/and 3 findings/')
   sees 'a wrong number of findings' 1 tell_beyond 2
   desk=$(stub 'exit 5')
-  sees 'runs that are not written out' 1 play_runs "games/$it.orders"
+  sees 'runs that are not in full' 1 play_runs "games/$it.orders"
   sees 'a word with a status that it may not have' 1 try_every_word "games/$it.orders"
   desk=$(stub 'exit 0')
   sees 'a desk that writes nothing on damaged files' all try_damaged 2

@@ -2,7 +2,9 @@
 # crates.txt, the rulebook and the counts of what the claims rest on are fresh, a second count gives
 # the same and finds each definition that a clause reaches in a chapter, the examples at the roots of
 # crates are tests, each lemma is cited and each import used, and the pages for players have contents,
-# links that lead somewhere, examples of games and no unwanted words, and their card is fresh.
+# links that lead somewhere, examples of games and no unwanted words, their card is fresh, and no other
+# document, nor the post's messages and help, nor a comment of a script or a crate, has a phrase that is
+# unwanted everywhere.
 
 check_docs() {
   take_over tools/names
@@ -14,6 +16,32 @@ check_docs() {
   take_over tools/lemmas
   take_over tools/check/pages
   take_over tools/card --check
+  count_phrases "$top"
+  count_comments "$top/crates"
+}
+
+# count_phrases TOP: looks for the phrases that tools/check/unwanted-words.txt wants nowhere, in the
+# documents that are not for players alone, in the messages and help of the post, and in the comments of
+# scripts. What stands between backquotes is not looked at.
+count_phrases() {
+  local phrases file
+  phrases=$(sed '1,/^# Everywhere/d' tools/check/unwanted-words.txt | cut -f 1 | paste -sd '|')
+  while read -r file; do
+    count "a phrase that is unwanted everywhere, in ${file#"$1"/}" \
+      "$(sed '/^```/,/^```/s/.*//; s/`[^`]*`//g' "$file" | grep -niP "$phrases" | cut -c 1-120 | head -n 5)"
+  done < <(find "$1"/*.md "$1/docs/developers" "$1/docs/rulebook/README.md" "$1/docs/umpires" "$1/docs/programs" \
+    "$1/bench" "$1/tools" "$1/umpire_post" "$1"/{check,install,post,release,run-program,try} -type f \
+    ! -name '*.mbox' ! -name '*.outbox' ! -name '*.pyc' ! -name unwanted-words.txt ! -name docs.sh ! -path '*/boards*' \
+    ! -path '*/tools/rulebook/own/*' | sort)
+}
+
+# count_comments FOLDER: looks for the same phrases in the comments of crates there. `BUY of` is the order.
+count_comments() {
+  local phrases
+  phrases=$(sed '1,/^# Everywhere/d' tools/check/unwanted-words.txt | cut -f 1 | paste -sd '|')
+  count 'a phrase that is unwanted everywhere, in the comments of crates' \
+    "$(grep -rnE '^ *(//|--)' "$1" --include='*.rt' --include='*.antt' --exclude-dir=out |
+      sed 's/`[^`]*`//g; s/BUY of//g' | grep -iP ":[0-9]+: *(//|--).*($phrases)" | cut -c 1-160 | head -n 5)"
 }
 
 # wrong_pages TOP: looks at pages there in which one thing of each kind is wrong.
@@ -61,12 +89,15 @@ docs_must_fail() {
   # shellcheck disable=SC2016
   sed '/^| `run`/s/`umpire: run`/&, `rounds: games_end_once`/' docs/developers/proof.md > "$scratch/clauses.md"
   sees 'a clause that the chapters leave out, and three counts without it' 4 take_over tools/recount --clauses "$scratch/clauses.md"
+  # shellcheck disable=SC2016
+  sed 's/`report: one_report`, //; s/, `report: one_report`//' docs/developers/proof.md > "$scratch/clauses.md"
+  sees 'a clause that is gone, whose definitions others reach, in three counts' 3 take_over tools/recount --clauses "$scratch/clauses.md"
   rm -r "$wrong/docs" && cp -r docs "$wrong"
   sed -i 's/\bNoneHasCode\b/NoneHasIt/' "$wrong/docs/rulebook/36-desk.md"
   sees 'a definition that its chapter leaves out' 1 take_over "$wrong/tools/recount"
   cp docs/rulebook/36-desk.md "$wrong/docs/rulebook"
   # shellcheck disable=SC2016
-  sed -i 's/`desk_state: all_in_order`, //' "$wrong/docs/developers/proof.md"
+  sed -i 's/`desk_cells: all_in_order`, //' "$wrong/docs/developers/proof.md"
   sees 'a sentence that is gone, with its chapter, names and counts' 4 take_over "$wrong/tools/claim" --check
   sed 's/^market: /&desk_base /' crates.txt > "$wrong/others.txt"
   sees 'a crate that stands on one above it' 1 take_over tools/layers --crates "$wrong/others.txt"
@@ -79,5 +110,9 @@ docs_must_fail() {
     wrong_pages "$wrong"
   sed 's/ keep the earnings / keep it /' docs/players/formats.md > "$wrong/docs/players/formats.md"
   sees 'a card that is not made from the tables' 1 take_over "$wrong/tools/card" --check
+  printf '\nWhat remains is dear while it lives.\n' >> "$wrong/docs/developers/architecture.md"
+  sees 'a phrase that is unwanted everywhere' 1 count_phrases "$wrong"
+  printf '// What falls to the next line.\n' >> "$wrong-crates/sheets/src/lib.rt"
+  sees 'a comment of a crate with a phrase that is unwanted' 1 count_comments "$wrong-crates"
   sees 'an example that no test has' 1 take_over tools/check/examples "$wrong-crates"
 }

@@ -2,7 +2,7 @@
 # is converted to.
 
 # play_game ORDERS: the file of orders gives its report, with status 0 or that of its file. In
-# folders whose games have certificates behind the orders, or ask for them, or go over to version 2,
+# folders whose games have certificates behind the orders, or ask for them, or migrate to version 2,
 # its name begins with the program's word.
 play_game() {
   local name=${1%.orders} word=report status=0

@@ -166,7 +166,7 @@ check_page() {
   compare_pictures
 }
 
-# read_last_rounds: a page of all rounds up to one has the last 60 of them at most, and its title says how many there were.
+# read_last_rounds: a page of all rounds up to one has the last 60 of them at most, and its title names it and says how many there were.
 read_last_rounds() {
   local it up_to first title rounds why=
   for it in 'PR60 PR1 60 rounds' 'PR61 PR2 the last 60 of 61 rounds' 'PR197 PR138 the last 60 of 197 rounds'; do
@@ -174,7 +174,7 @@ read_last_rounds() {
     "$desk" page --all "$up_to" < games/broken-bank.orders > "$scratch/last" 2> "$scratch/err"
     rounds=$(grep -o 'aria-label="After [A-Z0-9.]*"' "$scratch/last" | tr -dc 'PR0-9\n')
     [ "$(wc -l <<< "$rounds") ${rounds%%$'\n'*} ${rounds##*$'\n'}" = "60 $first $up_to" ] || why+=" other rounds up to $up_to;"
-    grep -qF "<title>1830: $title</title>" "$scratch/last" || why+=" another title up to $up_to;"
+    grep -qF "<title>1830: after $up_to, $title</title>" "$scratch/last" || why+=" another title up to $up_to;"
   done
   count 'the last rounds of a page' "${why# }"
 }

@@ -80,6 +80,9 @@ sees_wrong_post() {
       "$(wrong_post 's/except Exception as wrong:/except ZeroDivisionError as wrong:/' intake.py)" ;;
     strangers) sees 'a post that answers every stranger' 1 run_tests test_answered.Strangers.test_all_of_them_get_so_many_answers_a_day \
       "$(wrong_post 's/len(self.recent) >= self.most/False/' strangers.py)" ;;
+    flood) sees 'a post that answers whatever comes in a player'"'"'s name' 1 \
+      run_tests test_answered.Strangers.test_an_address_of_a_player_is_answered_so_often_a_day \
+      "$(wrong_post 's/MOST_TO_PLAYER = 20/MOST_TO_PLAYER = 50/' strangers.py)" ;;
     older) sees 'an older sheet in place of a newer one' 1 run_tests test_arrival.Newest.test_an_older_message_replaces_no_newer_sheet \
       "$(wrong_post 's/DELIVERY = .*/DELIVERY = re.compile("no number")/' sources.py)" ;;
     closing) sees 'a closing among the orders' 1 run_tests test_messages "$(wrong_post 's/"kind regards", //' prose.py)" ;;
@@ -108,4 +111,4 @@ sees_wrong_post() {
   esac
 }
 
-post_must_fail() { side_by_side sees_wrong_post letter twice step half lock bankrupt game key anybody guesses raises fault strangers older closing; }
+post_must_fail() { side_by_side sees_wrong_post letter twice step half lock bankrupt game key anybody guesses raises fault strangers flood older closing; }

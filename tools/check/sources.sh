@@ -16,9 +16,9 @@ count_unmerged() {
   count 'a merge that is not finished' "$(grep -rInE "${left[@]}" --include='*.*' '^(<{7}|>{7}) ' "$1" | head -n 3)"
 }
 
-# count_wide FOLDER: whether no comment of a source is over 100 columns, which no layout looks at.
+# count_wide FOLDER: whether no comment of a source is wider than 100 columns, which no layout looks at.
 count_wide() {
-  count 'a comment over 100 columns' "$(grep -rnP --include='*.rt' '^(?=\s*//).{101}' "$1" | cut -c 1-120 | head -n 3)"
+  count 'a comment wider than 100 columns' "$(grep -rnP --include='*.rt' '^(?=\s*//).{101}' "$1" | cut -c 1-120 | head -n 3)"
 }
 
 # count_unstated FILE: whether each crate has as many functions without an `ensures` as that file says.
@@ -33,5 +33,5 @@ sources_must_fail() {
   mkdir -p "$scratch/unmerged" && printf 'a line\n<<<<<<< HEAD\n' > "$scratch/unmerged/page.md"
   sees 'a merge that is not finished' 1 count_unmerged "$scratch/unmerged"
   mkdir -p "$scratch/wide" && printf '    // %0100d\n' 0 > "$scratch/wide/source.rt"
-  sees 'a comment over 100 columns' 1 count_wide "$scratch/wide"
+  sees 'a comment wider than 100 columns' 1 count_wide "$scratch/wide"
 }

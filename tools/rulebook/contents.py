@@ -51,7 +51,7 @@ HEADED = {
     'The check of a best revenue': Headed('certificate: IsAcceptedClaim', 'certificate: accepts', 'certificates/verify-two-trains'),
     'Dividends': Headed('certs: paid_out', 'certs: pay_out', 'codes/DIVIDEND-who-is-paid'),
     'Consent': Headed('totals: has_consent', 'totals: has_consent', 'codes/T4-no-consent'),
-    'Offers': Headed('purchases: offer_rules', 'purchases: judge_offer', 'codes/T4-an-offer-of-another-seat'),
+    'Offers': Headed('purchases: offer_rules', 'purchases: judge_offer', 'codes/T4-an-offer-of-another-player'),
     'Buying trains': Headed('purchases: train_purchase_rules', 'purchases: judge_purchase', 'codes/TRAIN-from-a-company'),
     'The train that a company must buy': Headed('forced_purchase: after_forced', 'forced_purchase: buy_by_force', 'codes/AID-of-a-president'),
     'RAISE lines': Headed('forced_purchase: raise_judgement', 'forced_purchase: judge_raise', 'codes/S4-of-RAISE'),

@@ -22,7 +22,7 @@ PLUMBING_NAMES = re.compile(r'same_\w+|(?:\w+_)?index_of(?:_\w+)?')
 # What the tests below would take for something else.
 RULES = {'Ends', 'first_broken', 'limit_from', 'least_over', 'same_offer', 'same_terms', 'rusts_at', 'leg_from', 'leg_over', 'made_along',
          'travelled', 'arrived', 'fault_of_standing', 'AreListed'}
-TABLES = {'text_of_pay_rule'}
+TABLES = {'code_of_pay_rule', 'sentence_of_pay_rule'}
 RULES_OF_ALL = {'tables/specs/Turns', 'turns/specs/RoundOfTurns', 'turns/specs/Ruling', 'sheets/specs/Taken', 'umpire/specs/Verify'}
 
 

@@ -273,13 +273,13 @@ def library_page(library: set[Name], words: dict[str, tuple[str, str]]) -> str:
     return '# Words of the library\n\n%s\n' % MADE + wrap(text) + '\n' + table(['Word', 'Meaning', 'From'], rows)
 
 
-def claims_table(rows: list[tuple[str, Reach]], house: House, all_definitions: int, all_lines: int) -> str:
-    """Returns the counts of what the claims rest on."""
+def claims_table(rows: list[tuple[str, set[str], Reach]], house: House, all_definitions: int, all_lines: int) -> str:
+    """Returns the counts of what the claims rest on: of each its title, its clauses, and what these reach."""
     shown = []
-    for title, reach in rows:
+    for title, clauses, reach in rows:
         kinds = Counter(kind_of(house.definition(one)) for one in reach.definitions)
         lines = {kind: house.lines({one for one in reach.definitions if kind_of(house.definition(one)) is kind}) for kind in Kind}
-        shown.append([title, '%d' % len(reach.definitions), '%d' % house.lines(reach.definitions)]
+        shown.append([title, '%d' % len(clauses), '%d' % len(reach.definitions), '%d' % house.lines(reach.definitions)]
                      + ['%d (%d)' % (kinds[kind], lines[kind]) for kind in Kind] + ['%d' % len(reach.types), '%d' % len(reach.library)])
-    shown.append(['all of `specs/`', '%d' % all_definitions, '%d' % all_lines, '', '', '', '', ''])
-    return table(['Claim', 'Definitions', 'Lines', 'Rules', 'Tables', 'Plumbing', 'Types', 'Words of the library'], shown)
+    shown.append(['all of `specs/`', '', '%d' % all_definitions, '%d' % all_lines, '', '', '', '', ''])
+    return table(['Claim', 'Clauses', 'Definitions', 'Lines', 'Rules', 'Tables', 'Plumbing', 'Types', 'Words of the library'], shown)

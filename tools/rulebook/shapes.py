@@ -89,7 +89,7 @@ class Shapes:
 
     def __init__(self, house: House, index: Index):
         self.house, self.index = house, index
-        self.texts = dict(self.rule_texts())
+        self.texts = self.rule_texts()
         self.recording: dict[Name, bool] = {}
         self.shown: set[Name] = set()  # the tables that a text of the players has in their own shape
 
@@ -101,15 +101,20 @@ class Shapes:
             return None
         return target.split('/')[-2], rest or name or head
 
-    def rule_texts(self) -> Iterator[tuple[tuple[str, str], tuple[str, str]]]:
-        """Yields the code and the sentence of each rule, by its type and variant."""
+    def rule_texts(self) -> dict[tuple[str, str], tuple[str, str]]:
+        """Returns the code and the sentence of each rule, by its type and variant."""
+        of = {kind: dict(self.texts_by_variant(kind)) for kind in ('code_of', 'sentence_of')}
+        return {one: (code, of['sentence_of'][one]) for one, code in of['code_of'].items() if one in of['sentence_of']}
+
+    def texts_by_variant(self, kind: str) -> Iterator[tuple[tuple[str, str], str]]:
+        """Yields the text that a definition of codes or of sentences gives each variant."""
         for key, module in self.house.modules.items():
             for definition in module.definitions.values():
-                for left, right in sides(definition.name, definition.lines):
-                    found = self.variant(key, left.strip('() ').split()[0]) if left and 'rule_text' in right else None
-                    if found:
-                        code, *parts = TEXT.findall(right)
-                        yield found, (code, ''.join(parts))
+                if definition.name == kind or definition.name.startswith(kind + '_'):
+                    for left, right in sides(definition.name, definition.lines):
+                        found = self.variant(key, left.strip('() ').split()[0]) if left and TEXT.search(right) else None
+                        if found:
+                            yield found, ''.join(TEXT.findall(right))
 
     def rows(self, one: Name) -> list[Row]:
         """Returns the rows of a table of rules, and of those that it joins, in order."""
@@ -197,10 +202,22 @@ class Shapes:
         """Returns definitions by cases as the columns of a table, with a row for each case."""
         rows: dict[str, list[str]] = {}
         for number, one in enumerate(names):
-            for left, right in sides(one[1], self.house.definition(one).lines):
+            for left, right in self.arms(one):
                 row = rows.setdefault(left.split('.')[-1], [(self.name if by_names else self.case)(one[0], left)] + ['–'] * len(names))
                 row[number + 1] = self.value(one[0], right)
         return folded(heads, list(rows.values()))
+
+    def arms(self, one: Name) -> list[tuple[str, str]]:
+        """Returns the equations of a definition by cases, with an equation for each case that its last one leaves to any other."""
+        found = sides(one[1], self.house.definition(one).lines)
+        first, (last, right) = found[0][0], found[-1]
+        variant = self.variant(one[0], first) if re.fullmatch(r'[a-z]\w*', last) else None
+        of = next((of for (_, name), of in self.house.types.items() if variant and name == variant[0]), None)
+        named = {left.split('.')[-1] for left, _ in found}
+        left_out = [first.rpartition('.')[0] + '.' * ('.' in first) + name for name in variants(of) if name not in named] if of else []
+        if not left_out or not all(self.variant(one[0], left) for left in left_out):
+            return found
+        return found[:-1] + [(left, right) for left in left_out]
 
     def name(self, key: str, left: str) -> str:
         """Returns what the left side of an equation names, by what the source says of it: what follows the code."""
@@ -225,8 +242,8 @@ class Shapes:
         """Returns a constant as it stands in a cell."""
         texts = TEXT.findall(right)
         if texts:
-            return texts[0] + ': ' + ''.join(texts[1:]) if 'rule_text' in right else ''.join(texts)
-        words = re.findall(r'[\w.]+', right)
+            return ''.join(texts)
+        words = re.findall(r'[\w.]+', re.sub(r'\w+ = ', '', right))
         if key.startswith('map_tables') and any(self.follow(key, word) for word in words):
             return '`%s`' % re.sub(r' ∷ (?!\[\])', ', ', right).replace(' ∷ []', '')
         words = [word for word in words if word not in ('Some', 'pos', 'record') and not self.follow(key, word)]
@@ -274,6 +291,11 @@ def without_repeats(steps: list[Step]) -> list[Step]:
             if steps[at:at + length] == steps[at + length:at + 2 * length]:
                 return without_repeats(steps[:at + length] + steps[at + 2 * length:])
     return steps
+
+
+def variants(of: SourceType) -> list[str]:
+    """Returns the names of the variants of an enum."""
+    return [found[1] for line in of.lines if (found := re.match(r'    ([A-Z]\w*)[,({ ]?', line))]
 
 
 def variant_comments(of: SourceType) -> dict[str, str]:

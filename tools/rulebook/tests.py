@@ -27,10 +27,15 @@ pub record Rule (Code : Type 0) : Type 0 where
   pub code : Code
   pub broken : Bool
 
--- the text of a rule
-abbrev pub text_of : SaleRule → RuleText
-text_of Empty = rule_text (codes "S1") (codes "it sells nothing: " ++ codes "a price, say")
-text_of Late = rule_text (codes "S2") (codes "it is late")
+-- the code of a rule
+abbrev pub code_of : SaleRule → List ℕ
+code_of Empty = codes "S1"
+code_of Late = codes "S2"
+
+-- the sentence of a rule
+abbrev pub sentence_of : SaleRule → List ℕ
+sentence_of Empty = codes "it sells nothing: " ++ codes "a price, say"
+sentence_of Late = codes "it is late"
 
 -- what a kind costs
 unfoldable pub price : Kind → ℕ
@@ -93,7 +98,10 @@ impl Model for Basket {
 }
 
 /// A kind of thing.
-pub enum Kind { Small, Large }
+pub enum Kind {
+    Small,
+    Large,
+}
 
 pub enum SaleRule {
     Empty,
@@ -130,7 +138,7 @@ class TestFiles(unittest.TestCase):
 
     def test_definitions(self):
         module = shop().modules['shop/specs/Rules']
-        self.assertEqual(list(module.definitions), ['Rule', 'text_of', 'price', 'is_empty', 'count_in', 'counted', 'sale_rules', 'paid', 'sold', 'over'])
+        self.assertEqual(list(module.definitions), ['Rule', 'code_of', 'sentence_of', 'price', 'is_empty', 'count_in', 'counted', 'sale_rules', 'paid', 'sold', 'over'])
         self.assertEqual(module.definitions['price'].comment, ['what a kind costs'])
         self.assertEqual(len(module.definitions['sale_rules'].lines), 5)
         self.assertEqual(module.definitions['over'].lines[1], 'over other = not (other == count)')
@@ -199,7 +207,7 @@ class TestKinds(unittest.TestCase):
     def test_kinds(self):
         definitions = shop().modules['shop/specs/Rules'].definitions
         self.assertEqual({name: kinds.kind_of(of).value for name, of in definitions.items()}, {
-            'Rule': 'rule', 'text_of': 'table', 'price': 'table', 'is_empty': 'rule', 'count_in': 'plumbing', 'counted': 'rule',
+            'Rule': 'rule', 'code_of': 'table', 'sentence_of': 'table', 'price': 'table', 'is_empty': 'rule', 'count_in': 'plumbing', 'counted': 'rule',
             'sale_rules': 'rule', 'paid': 'rule', 'sold': 'rule', 'over': 'rule'})
 
     def test_nothing_that_says_something_is_a_rule(self):
@@ -240,6 +248,11 @@ class TestShapes(unittest.TestCase):
         self.assertEqual(shapes.without_repeats([one, two, one, two, one, one]), [one, two, one])
 
     def test_columns(self):
+        self.assertEqual(self.shapes.columns_table([named('price')], ['Kind', 'Price']),
+                         '| Kind | Price |\n|---|---|\n| small | 5 |\n| large | 10 |\n')
+
+    def test_columns_of_any_other_case(self):
+        self.house.definition(named('price')).lines[1:] = ['price Small = 5', 'price other = 10']
         self.assertEqual(self.shapes.columns_table([named('price')], ['Kind', 'Price']),
                          '| Kind | Price |\n|---|---|\n| small | 5 |\n| large | 10 |\n')
 
@@ -284,7 +297,7 @@ class TestChapters(unittest.TestCase):
         listed = [chapters.Chapter(title, title, [('page', title)]) for title in ('Sales', 'Counts', 'Rest')]
         chapters.fill(listed, {'page': page}, chapters.Index(house, reached), {'Rest': [named('price')]}, {})
         brings = [{name for _, name in chapter.brings} for chapter in listed]
-        self.assertEqual(brings, [{'sale_rules', 'is_empty', 'Rule'}, {'counted', 'sold', 'paid'}, {'price', 'count_in', 'over', 'text_of'}])
+        self.assertEqual(brings, [{'sale_rules', 'is_empty', 'Rule'}, {'counted', 'sold', 'paid'}, {'price', 'count_in', 'over', 'code_of', 'sentence_of'}])
 
     def test_what_states_a_section_is_of_its_chapter(self):
         house = shop()
