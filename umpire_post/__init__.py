@@ -26,7 +26,7 @@ Modules, in reading order:
     letters     how a letter is made, and the letters of a game
     answers     the answer to a message
     entries     a message that was read, and what is written of it
-    strangers   which messages from outside the club are answered
+    strangers   which messages are answered, since a sender may be forged
     evening     what a command works with
     beginning   `new` and `club`
     intake      `in`

@@ -7,7 +7,7 @@ from pathlib import Path
 from umpire_post import letters
 from umpire_post.answers import answer
 from umpire_post.club import Club, Player
-from umpire_post.folder import OUTBOX, Messages, Record
+from umpire_post.folder import OUTBOX, Messages, Record, answer_to
 from umpire_post.letters import Letter
 from umpire_post.message import Incoming
 from umpire_post.programs import BANKRUPT
@@ -50,18 +50,18 @@ class Entry:
         if self.reading is None:
             return self._question(now)
         if self.is_accepted:
-            return [answer(club, self.reading, number, owed, now, to=it.addresses[0], name=f"{number:04}-answer-{it.name}", player=it)
+            return [answer(club, self.reading, number, owed, now, to=it.addresses[0], name=f"{answer_to(number)}-{it.name}", player=it)
                     for it, owed in self.owed]
         if not self.reading.is_answered or not self.incoming.sender:
             return []
         owed = [line for _, lines in self.owed for line in lines]
-        return [answer(club, self.reading, number, owed, now, to=self.incoming.sender, name=f"{number:04}-answer")]
+        return [answer(club, self.reading, number, owed, now, to=self.incoming.sender, name=answer_to(number))]
 
     def _question(self, now: datetime) -> list[Letter]:
         """Makes the letter that asks the sender for which game the message is."""
         if not self.choice:
             return []
-        to, name = self.incoming.sender, f"{self.record.number:04}-answer"
+        to, name = self.incoming.sender, answer_to(self.record.number)
         names = dict.fromkeys(player.name for it in self.choice for player in it.players_at(to))
         answers = [it for it in (self.incoming.message_id,) if it]
         return [letters.which_game(self.box.club, name, to, listed(names), self.choice, answers, now)]

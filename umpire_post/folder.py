@@ -57,7 +57,7 @@ class Record:
     a moment that its mailbox told, and was read when it `came`. Of one that is cut only the front was
     kept. `warned` names the players who were told that their sheet makes them bankrupt, `wrong_keys` those
     for whose sheets it brought a wrong key. One that `is_to_stranger` has an answer to somebody outside the
-    club."""
+    club. One that `is_genuine` answers a letter or has the right key, so its sender is hardly forged."""
 
     number: int
     digest: str
@@ -72,6 +72,12 @@ class Record:
     warned: tuple[str, ...] = ()
     wrong_keys: tuple[str, ...] = ()
     is_to_stranger: bool = False
+    is_genuine: bool = False
+
+    @property
+    def is_answered(self) -> bool:
+        """Whether its sender got an answer, and not only the players of sheets that the umpire accepted."""
+        return answer_to(self.number) + ".eml" in self.letters
 
     def to_json(self) -> bytes:
         return _json(asdict(self))
@@ -221,6 +227,11 @@ class Folder(Messages):
             kept = self._pending.setdefault(sheet.round, {})
             if sheet.player not in kept or kept[sheet.player].record.arrived <= record.arrived:
                 kept[sheet.player] = Pending(record, sheet)
+
+
+def answer_to(number: int) -> str:
+    """Returns the name of the answer to a message."""
+    return f"{number:04}-answer"
 
 
 def first_letter(player: str) -> str:

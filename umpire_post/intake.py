@@ -13,14 +13,15 @@ from umpire_post.evening import Evening
 from umpire_post.folder import DEALT_WITH, Folder, Messages, Record
 from umpire_post.games import Place, named
 from umpire_post.message import Incoming, take_apart
-from umpire_post.reading import Reader
+from umpire_post.reading import Reader, Reading
 from umpire_post.routing import game_of
 from umpire_post.sources import Raw
-from umpire_post.strangers import Strangers
+from umpire_post.strangers import MOST_TO_PLAYER, Players, Strangers
 from umpire_post.words import counted, listed, plain, shown
 
 # What is read before it is written, in one step.
 MOST_MESSAGES, MOST_BYTES = 500, 8 << 20
+OVER = f"after {MOST_TO_PLAYER} answers within a day to this address"
 Made = TypeVar("Made")
 
 
@@ -45,6 +46,7 @@ class Intake:
         self.digests = set().union(*(it.digests for it in self.boxes))
         most = (self.shared or self.games[0]).club.strangers
         self.strangers = Strangers((record for it in self.boxes for record in it.records), most)
+        self.players = Players(record for it in self.boxes for record in it.records)
 
     def __enter__(self) -> "Intake":
         return self
@@ -93,6 +95,8 @@ class Intake:
         assert self.shared is not None
         record = replace(self._record(self.shared, raw, incoming), aside=(self._why_aside(incoming),))
         choice = () if incoming.automatic else tuple(it.club for it in self._played(incoming))
+        if choice and not self.players.gets_answer(incoming.sender, record.is_genuine, datetime.fromisoformat(record.came)):
+            record, choice = replace(record, aside=(f"{record.aside[0]}, not answered",)), ()
         return self._kept(Entry(self.shared, raw, record, incoming, choice=choice))
 
     def accept(self, game: Folder, messages: Iterable[tuple[Record, bytes]]) -> list[Written]:
@@ -141,17 +145,27 @@ class Intake:
     def _read_for(self, game: Folder, raw: Raw, incoming: Incoming, accepted: Record | None = None) -> Entry:
         reader = self.reader(game)
         reading, record = reader.read(incoming, accepted), self._record(game, raw, incoming)
-        is_asked = reading.is_of_stranger and reading.is_answered
-        if is_asked and not self.strangers.gets_answer(incoming.sender, datetime.fromisoformat(record.came)):
-            reading.leave_unanswered()
+        record = replace(record, is_genuine=record.is_genuine or reading.has_key)
+        if reading.is_answered and accepted is None:
+            self._bound(reading, record)
         record = replace(record, sheets=tuple(it.sheet for it in reading.counting()), aside=tuple(reading.aside),
                          wrong_keys=tuple(reading.wrong_keys))
         entry = self._kept(Entry(game, raw, record, incoming, reading, (), accepted is not None))
         return replace(entry, owed=tuple((it, _owed(reader, it)) for it in _answered(entry)))
 
+    def _bound(self, reading: Reading, record: Record) -> None:
+        """Leaves a message unanswered if its address had as many answers as it gets."""
+        now = datetime.fromisoformat(record.came)
+        if reading.is_of_stranger:
+            if not self.strangers.gets_answer(record.sender, now):
+                reading.leave_unanswered()
+        elif not self.players.gets_answer(record.sender, record.is_genuine, now):
+            reading.hold_back(OVER)
+
     def _record(self, box: Messages, raw: Raw, incoming: Incoming) -> Record:
+        is_reply = any(it.endswith(other.club.identity_end) for it in incoming.answers for other in self.boxes)
         return Record(box.next_message(), raw.digest, self.evening.time(), incoming.sender, incoming.subject, is_cut=raw.is_too_large,
-                      arrived=raw.arrived)
+                      arrived=raw.arrived, is_genuine=is_reply)
 
     def _kept(self, entry: Entry) -> Entry:
         entry.box.keep(entry.record)

@@ -68,10 +68,10 @@ def letter(club: Club, name: str, to: str, subject: str, text: str, now: datetim
 def first_letter_of(club: Club, name: str, player: Player, report: Report, due: str, rules: Sequence[Attached], now: datetime) -> Letter:
     """Makes the first letter of a game for a player: who plays, the rules, the first round and its
     deadline."""
-    seats = [f"    {it:8}  {club.players[it].addresses[0]}" for it in report.players]
+    players = [f"    {it:8}  {club.players[it].addresses[0]}" for it in report.players]
     parts = [
-        wrapped(f"The game {club.game} of 1830 begins. These are the players, in the order of their seats:", ""),
-        "\n".join(seats),
+        wrapped(f"The game {club.game} of 1830 begins. These are the players, in the order of play:", ""),
+        "\n".join(players),
         _of_rules(club, rules),
         wrapped(next_of(report, due), ""),
         wrapped(f"Answer this letter to send your sheet. Its first line is SHEET {player.name} {report.awaited or 'SR1'}, and your "

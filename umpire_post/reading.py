@@ -9,7 +9,7 @@ import os
 import re
 from collections.abc import Sequence
 from concurrent.futures import Future, ThreadPoolExecutor
-from dataclasses import dataclass, field
+from dataclasses import dataclass, field, replace
 from datetime import datetime
 
 from umpire_post.club import Club, Player
@@ -58,7 +58,7 @@ class Judged:
 @dataclass
 class Reading:
     """A message as it was read: its sheets, what is said of it as a whole, why something of it was set
-    aside, and the players for whose sheets it brought a wrong key."""
+    aside, whether it has the right key, and the players for whose sheets it brought a wrong one."""
 
     incoming: Incoming
     senders: Sequence[Player] = ()
@@ -66,6 +66,7 @@ class Reading:
     said: list[str] = field(default_factory=list)
     aside: list[str] = field(default_factory=list)
     wrong_keys: list[str] = field(default_factory=list)
+    has_key: bool = False
     is_answered: bool = True
     is_of_stranger: bool = False
 
@@ -73,6 +74,14 @@ class Reading:
         """Leaves a message without an answer, and has the umpire know."""
         self.is_answered = False
         self.aside = [f"{it}, not answered" for it in self.aside]
+
+    def hold_back(self, why: str) -> None:
+        """Leaves a message without an answer. Its sheets wait for the umpire: none counts of which its player
+        is not told."""
+        held = [f"the sheet of {it.found.player} for {it.found.round}, {why}" for it in self.counting()]
+        self.aside += held if held or self.aside else [f"it came {why}"]
+        self.sheets = [replace(it, counts=False, asked=None) for it in self.sheets]
+        self.leave_unanswered()
 
     def counting(self) -> list[Judged]:
         """Returns the sheets that count."""
@@ -193,6 +202,7 @@ class Reader:
                          f"{MOST_WRONG_KEYS} messages of one day had a wrong KEY line, so sheets of {player.name} wait for the umpire, "
                          "who is told of this one.")
         if reading.incoming.contents.found.has_key(player.key):
+            reading.has_key = True
             return None
         reading.wrong_keys += [player.name] if reading.incoming.contents.found.keys else []
         return Fault("with a wrong KEY line" if reading.incoming.contents.found.keys else "without a KEY line",

@@ -8,8 +8,9 @@ from unittest import mock
 
 from umpire_post import entries, intake
 from umpire_post.folder import Record
+from umpire_post.intake import OVER
 from umpire_post.reading import Reader
-from umpire_post.tests.evenings import UMPIRE, Clubs, Evenings, letter_of, mail, tree
+from umpire_post.tests.evenings import MARK, UMPIRE, Clubs, Evenings, letter_of, mail, tree
 
 SHEETS = {it: [f"SHEET {it} PR1"] for it in ("ANN", "BOB", "CYD")}
 FOUR = ("ANN=ann@example.org", "BOB=bob@example.org", "CYD=cyd@example.org", "DOT=dot@example.org")
@@ -59,6 +60,35 @@ class Strangers(Evenings):
             self.change("club.toml", "strangers = .*", f"strangers = {text}")
             self.assertIn("strangers is not a number from 0 to 1000", self.post("status", status=1))
 
+    def test_an_address_of_a_player_is_answered_so_often_a_day(self) -> None:
+        """What is over that waits for the umpire: no sheet counts of which its player is not told."""
+        told = self.comes(*(mail("ANN", [*SHEETS["ANN"], "TURN"] if at % 2 else ["hello"], at) for at in range(24)), status=3)
+        self.assertEqual(list(range(1, 21)), self.answers())
+        self.assertIn(f"set aside: message 21 from ann@example.org (sheet): it has no sheet, not answered\n", told)
+        self.assertIn(f"set aside: message 22 from ann@example.org (sheet): the sheet of ANN for PR1, {OVER}, not answered\n", told)
+        self.assertIn("ANN      sent message 20", self.post("status"))
+        self.comes(mail("ANN", SHEETS["ANN"], 30, "ANN@example.org"), mail("BOB", SHEETS["BOB"], 31), status=3)
+        self.assertEqual(26, self.answers()[-1])
+        self.post("in", "--accept", "24")
+        self.assertIn("ANN      sent message 27", self.post("status"))
+        self.clock.time += timedelta(days=1)
+        self.comes(mail("ANN", SHEETS["ANN"], 32))
+        self.assertEqual(28, self.answers()[-1])
+
+    def test_a_flood_in_a_players_name_leaves_the_players_own_answered(self) -> None:
+        """What answers a letter of the game counts apart, and so does what has the right key."""
+        self.change("club.toml", r"\[players.BOB\]", '[players.BOB]\nkey = "heron-7"')
+        self.comes(*(mail("ANN", ["hello"], at) for at in range(30)), *(mail("BOB", ["hello"], at) for at in range(30, 60)), status=3)
+        self.assertEqual([*range(1, 21), *range(31, 51)], self.answers())
+        reply = f"<new-ANN.{MARK}@example.org>"
+        self.comes(letter_of("ANN", SHEETS["ANN"], 60, answers=reply), letter_of("ANN", SHEETS["ANN"], 61, answers=reply),
+                   mail("BOB", ["KEY heron-7", *SHEETS["BOB"]], 62))
+        self.assertEqual([61, 62, 63], self.answers()[-3:])
+        told = self.comes(*(letter_of("ANN", SHEETS["ANN"], at, answers=reply) for at in range(70, 90)),
+                          *(mail("BOB", SHEETS["BOB"], at) for at in range(90, 92)), status=3)
+        self.assertEqual(81, self.answers()[-1])
+        self.assertIn(f"set aside: message 84 from bob@example.org (sheet): the sheet of BOB for PR1, without a KEY line, not answered\n", told)
+
     def test_players_are_answered_whatever_strangers_send(self) -> None:
         self.comes(*map(of_stranger, range(20)), *(mail("ANN", SHEETS["ANN"], at) for at in range(20, 40)), status=3)
         self.assertEqual([*range(1, 11), *range(21, 41)], self.answers())
@@ -91,6 +121,15 @@ class StrangersOfClubs(Clubs):
         self.comes(*(letter_of("ZOE", SHEETS["ANN"], at, subject=("alpha", "beta")[at % 2], sender=f"z{at}@x.example") for at in range(9)), status=3)
         answers = [it for game in ("alpha", "beta") for it in self.names(f"{game}/outbox") if "answer" in it]
         self.assertEqual(["0001-answer.eml", "0002-answer.eml", "0001-answer.eml"], answers)
+
+    def test_a_player_is_asked_so_often_for_which_game_a_message_is(self) -> None:
+        self.post("club", "--umpire", UMPIRE, *FOUR)
+        for name in ("alpha", "beta"):
+            self.on(name, "new", "ANN", "BOB", "CYD")
+        told = self.comes(*(letter_of("ANN", SHEETS["ANN"], at, subject="alpha" if at < 5 else "sheet") for at in range(22)), status=3)
+        answers = [it for folder in ("alpha/outbox", "outbox") for it in self.names(folder) if "answer" in it]
+        self.assertEqual(20, len(answers))
+        self.assertIn("(sheet): it names none of the games of its sender, alpha and beta, not answered\n", told)
 
 
 class Failing(Evenings):

@@ -74,7 +74,7 @@ class In(Evenings):
     def test_many_messages_are_one_step_and_one_report(self) -> None:
         with mock.patch.object(Step, "commit", autospec=True, side_effect=Step.commit) as commit, \
                 mock.patch.object(PROGRAMS, "report", side_effect=PROGRAMS.report) as report:
-            self.comes(*(mail("ANN", EMPTY[0], at) for at in range(60)))
+            self.comes(*(mail(("ANN", "BOB", "CYD")[at % 3], EMPTY[at % 3], at) for at in range(60)))
         self.assertEqual((1, 1), (commit.call_count, report.call_count))
         self.assertEqual(60, len(self.names("outbox")))
 

@@ -8,6 +8,7 @@ import unittest
 import unittest.mock
 from collections.abc import Iterator
 from contextlib import AbstractContextManager
+from datetime import timedelta
 from email.policy import default
 from pathlib import Path
 
@@ -124,7 +125,8 @@ class TenRounds(Clubs):
                     self.assertNotRegex(answer, rf"SHEET {name} ")
 
     def play(self, sheets: Path, lines: int) -> int:
-        """Plays a round of the session. Returns how many lines the session's file has then."""
+        """Plays a round of the session, on a day of its own. Returns how many lines the session's file has then."""
+        self.clock.time += timedelta(days=1)
         mended = [(name, text) for name, text, _ in chunks(sheets)]
         sent = sheets.with_suffix(".sent")
         if sent.exists():
