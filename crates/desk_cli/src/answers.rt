@@ -9,9 +9,9 @@ use desk_may::Progress;
 use desk_moves::{LayForm, MayForm, MovesFault, Question, answer, trial};
 use desk_round::{round, round_with_rules, runs};
 use desk_state::{StateForm, round_facts, state};
-use page::{bulletin, page, page_to_hexes, tile_sheet};
+use page::{PageToHexes, bulletin, page, page_to_hexes, tile_sheet};
 use page_all::{page_of_all, page_of_all_to_hexes};
-use page_lays::{STYLE, Wanted, end_page};
+use page_lays::{Drawn, STYLE, Wanted, end_page};
 use report::refusal_text;
 use std::alloc::{AllocError, Global};
 use tables::Round;
@@ -107,19 +107,17 @@ fn page_with_lays<P: Progress>(
         companies: task.companies.as_slice(),
         best: true,
     };
-    if task.all {
-        let page = page_of_all_to_hexes(alloc, file, task.round, task.due, STYLE)?;
-        return end_page(
-            alloc,
-            page.out,
-            file,
-            wanted,
-            page.hexes.as_slice(),
-            progress,
-        );
-    }
-    let out = page_to_hexes(alloc, file, task.round, task.due, STYLE)?;
-    end_page(alloc, out, file, wanted, &[], progress)
+    let page = if task.all {
+        page_of_all_to_hexes(alloc, file, task.round, task.due, STYLE)?
+    } else {
+        page_to_hexes(alloc, file, task.round, task.due, STYLE)?
+    };
+    let PageToHexes { out, hexes, names } = page;
+    let drawn = Drawn {
+        words: hexes.as_slice(),
+        names: names.as_slice(),
+    };
+    end_page(alloc, out, file, wanted, drawn, progress)
 }
 
 /// What is asked about a game.

@@ -8,7 +8,9 @@ use desk_base::{DeskFault, Stood, played_round};
 use desk_round::turns;
 use desk_state::statement;
 use markup::PagePiece::{Round as Named, Words};
-use markup::{Tag, Writer, begin_section};
+use markup::{Attr, Tag, Writer, begin_section};
+use page_ahead::put_story;
+use page_map::Scene;
 use sheets::{Sheets, collect};
 use std::alloc::{AllocError, Global};
 use tables::Round;
@@ -69,12 +71,23 @@ pub(crate) fn bulletin_text(alloc: Global, stood: &Stood) -> Result<Vec<u8>, All
     }
 }
 
-/// Adds the bulletin of a round, if there is one.
-pub(crate) fn put_bulletin(out: &mut Writer, round: Option<Round>, text: &[u8]) {
+/// Adds what happened in the last round, if there is one: a sentence for each turn, and behind a
+/// box that unfolds it the bulletin.
+pub(crate) fn put_bulletin(out: &mut Writer, scene: &Scene, text: &[u8]) {
     begin_section(out, "bulletin", "What happened", "");
-    match round {
+    match scene.history.now().round() {
         Some(round) => {
-            out.element(Tag::H3, &[Words("Bulletin of "), Named(round)]);
+            out.element(Tag::H3, &[Words("Turns of "), Named(round)]);
+            put_story(out, scene);
+            out.begin(Tag::Input);
+            out.value(Attr::Kind, &[Words("checkbox")]);
+            out.value(Attr::Id, &[Words("whole")]);
+            out.end();
+            out.begin(Tag::InputLabel);
+            out.value(Attr::For, &[Words("whole")]);
+            out.within();
+            out.put(&[Words("The bulletin, with the lines that were refused")]);
+            out.end();
             out.begin_as(Tag::Preformatted, "told");
             out.text(text);
             out.end();

@@ -22,15 +22,16 @@
 //! ```
 //!
 //! Reading order: `worth_history` (the game round by round), `checksum`, `due`, `style`,
-//! `bulletin_part`, `phases_part`, `result_part`, `shown_rows`, `tables_part` (players, companies,
-//! privates and trains), `revenue_part`, `status_part`, `whole_page` (`page`), `all_tiles`
-//! (`tile_sheet`).
+//! `bulletin_part`, `opens_at`, `phases_part`, `result_part`, `shown_rows`, `tables_part` (players,
+//! companies, privates and trains), `revenue_part`, `status_part`, `whole_page` (`page`),
+//! `all_tiles` (`tile_sheet`).
 #![tactic(auto)]
 
 mod all_tiles;
 mod bulletin_part;
 mod checksum;
 mod due;
+mod opens_at;
 mod phases_part;
 mod result_part;
 mod revenue_part;
@@ -45,8 +46,9 @@ pub use all_tiles::tile_sheet;
 pub use bulletin_part::bulletin;
 pub use checksum::{Source, source_of};
 pub use due::{due_shown, due_told};
+pub use opens_at::{chart_opens_at, map_opens_at};
 pub use page_ahead::{
-    Column, Table, begin_table_of, name_of, put_cell_in, put_cells, put_words_of,
+    Column, Table, begin_table_of, name_of, put_cell_in, put_cells, put_story, put_words_of,
 };
 pub use phases_part::colours_of;
 pub use result_part::put_result;
@@ -55,5 +57,5 @@ pub use shown_rows::{players_shown, privates_shown, roster_shown, trains_shown};
 pub use status_part::{put_links, put_names, put_next, put_skip, put_source, put_train_on_sale};
 pub use style::{STYLE, STYLE_OF_DUE};
 pub use tables_part::{FIGURES, PRIVATES, TRAINS, put_row, put_table};
-pub use whole_page::{page, page_to_hexes, players_of, tokens_of};
+pub use whole_page::{PageToHexes, page, page_to_hexes, players_of, tokens_of};
 pub use worth_history::{entries_of, thinned};

@@ -45,7 +45,7 @@ pub const STYLE: &str = "\n\
     .line{width:90px;height:14px;vertical-align:middle}\n\
     .tiles,.laid{list-style:none;margin:0;padding:0;display:flex;flex-wrap:wrap;gap:8px}\
     .tiles li{width:98px;text-align:center}.gone svg>*{opacity:.35}\n\
-    .tile{display:block;width:98px;height:101px;background:#fff}.laid{gap:2px 16px}\
+    .tile{display:block;width:98px;height:101px;background:#fff}.tile .n{font-size:13px}.laid{gap:2px 16px}\
     .laid li{min-width:84px}\n\
     text{font:12px Arial,Helvetica,'Liberation Sans',sans-serif;text-anchor:middle;fill:#000}\n\
     .st{text-anchor:start;font-size:14px}\n\
@@ -82,7 +82,8 @@ pub const STYLE: &str = "\n\
     .sa,.sc{fill:none}.sa{stroke:#000;stroke-width:9}.sc{stroke-width:7}\n\
     #nh,#nt,#nm,.ne,.mv{fill:none;stroke:#e0007a}#nh{stroke-width:5}\
     #nw{fill:none;stroke:#fff;stroke-width:9}#nt,.ne{stroke-width:4}\
-    #nm,.mv{stroke-width:3}.mh{fill:#e0007a}\n\
+    #nm,.mv{stroke-width:3}.mh{fill:#e0007a;stroke:#fff;stroke-width:2;paint-order:stroke}\
+    .mw{fill:none;stroke:#fff;stroke-width:6}\n\
     #sq{stroke:#777}.cw{fill:#fff}.chart .cy{fill:#fff1a8}.chart .co{fill:#f7b267}\
     .chart .cb{fill:#c08457}\n\
     .lg{font-size:16px}.tag{fill:#fff;stroke:#000}\
@@ -96,11 +97,12 @@ pub const STYLE: &str = "\n\
     .lead{fill:none;stroke:#777;stroke-width:1}\
     .name{text-anchor:start;font-size:14px;font-weight:bold}\n\
     #figures td{text-align:right;font-variant-numeric:tabular-nums}.sheet td{padding:2px}\n\
+    .did{margin:4px 0;max-width:80em}#whole+label{display:inline-block;padding:12px 8px 12px 0}\n\
     .told{white-space:pre-wrap;font:13px/1.35 ui-monospace,Consolas,'Liberation Mono',monospace}\
     .hexes{margin:0;padding:0;list-style:none;columns:22em;column-gap:24px}\
     .hexes li{break-inside:avoid;padding:2px 0;border-bottom:1px solid var(--rule)}\
     li:target{background:#ffe45c;color:#000}\n\
-    @media screen{section{overflow-x:auto}svg.map,svg.chart{min-width:900px}\
+    @media screen{#whole:not(:checked)~.told{display:none}section{overflow-x:auto}svg.map,svg.chart{min-width:900px}\
     #ranks{min-width:min(31em,100%)}\
     .plot{min-width:560px}th[scope=row]{position:sticky;left:0;background:var(--paper)}\
     .sum th[scope=row]{background:var(--band)}}\n\
@@ -109,7 +111,15 @@ pub const STYLE: &str = "\n\
     .chart .co{fill:#7a4a12}.chart .cb{fill:#5e3a1c}#par{stroke:#eee}.grid{stroke:#444}\
     .chart .mv{stroke:#ff4fa8}.mh{fill:#ff4fa8}}\n\
     @media screen and (max-width:700px){.on{display:none}.key{display:block}\
-    svg.map{min-width:1120px}svg.chart{min-width:960px}.plot{min-width:700px}\
+    svg.map{min-width:1120px}svg.chart{min-width:960px}.plot{min-width:760px}\
+    #companies{min-width:1240px}\
+    #map,#chart{position:relative;display:grid}#map>h2,#chart>h2,.key{position:sticky;left:0;\
+    justify-self:start}.key{width:calc(100vw - 34px)}\
+    .at{position:absolute;top:0;left:calc(var(--at)*112px + 56px);width:1px;height:1px;\
+    scroll-initial-target:nearest;scroll-snap-align:center}\
+    #chart .at{left:calc(var(--at)*96px + 48px)}\
+    .at0{--at:0}.at1{--at:1}.at2{--at:2}.at3{--at:3}.at4{--at:4}.at5{--at:5}.at6{--at:6}\
+    .at7{--at:7}.at8{--at:8}.at9{--at:9}\
     section{background:linear-gradient(90deg,var(--paper) 30%,transparent) 0 0/40px 100% local,\
     linear-gradient(270deg,var(--paper) 30%,transparent) 100% 0/40px 100% local,\
     linear-gradient(90deg,#0006,transparent) 0 0/14px 100% scroll,\
@@ -118,11 +128,14 @@ pub const STYLE: &str = "\n\
     nav{margin-left:0}nav a{display:inline-block;margin:0 10px 6px 0}\
     #runs thead{display:none}#runs tr{display:block;border-bottom:2px solid var(--rule);\
     padding:4px 0}#runs th,#runs td{display:inline-block;border:0;padding:1px 6px}\
-    #runs .way{display:block}.told{font-size:11px}}\n\
+    #runs .way{display:block}.told{font-size:11px}\
+    @supports not (scroll-initial-target:nearest){#map,#chart{scroll-snap-type:x mandatory}\
+    .at{animation:at 1s both}}}\n\
+    @keyframes at{to{scroll-snap-align:none}}\n\
     @page{size:A4 landscape;margin:8mm}\n\
     @media print{body{max-width:none;padding:0;font-size:11px;\
     -webkit-print-color-adjust:exact;print-color-adjust:exact}nav{display:none}\n\
-    .skip,.empty,.key,.back{display:none}h2,h3,caption,thead{break-after:avoid}\n\
+    .skip,.empty,.key,.back,#whole,#whole+label{display:none}h2,h3,caption,thead{break-after:avoid}\n\
     h1{font-size:18px}h2{font-size:15px;margin:4px 0}caption{font-size:14px}\
     #map h2{display:none}\n\
     header,.status,#result{float:left;clear:left;width:33mm;border:0;display:block}\

@@ -1,12 +1,13 @@
 //! The tables of players, companies, privates and trains: their columns and their rows.
 ghost use Rattle.std.specs.Prelude.{◌≡◌, IfOk};
 ghost use Rattle.desk_cells.specs.Before.{game_before};
+ghost use Rattle.desk_cells.specs.Leaders.{leaders_of};
 ghost use Rattle.page.specs.ShownRows.{order_shown, players_shown, privates_shown, roster_shown};
 ghost use Rattle.page.specs.ShownRows.{trains_shown};
 
 use crate::shown_rows::{order_shown, players_shown, privates_shown, roster_shown, trains_shown};
 use desk_base::view_behind;
-use desk_cells::{Field, TableRow, before_round};
+use desk_cells::{Field, Leader, TableRow, before_round, leaders};
 use history::Walk;
 use markup::PagePiece::{Name, Words};
 use markup::{NOTHING, Tag, Writer, begin_row, put_row_head};
@@ -21,6 +22,8 @@ use tables::{Company, Seat};
 pub(crate) struct PageRows {
     /// The players, by their seats.
     players: Vec<TableRow>,
+    /// The same players by worth, in the order in which they are shown.
+    by_worth: Vec<Leader>,
     /// The companies in the order of the roster.
     in_roster: Vec<TableRow>,
     /// The same companies: those that operate in operating order, and then the others.
@@ -34,6 +37,8 @@ impl PageRows {
     pub(crate) fn of(alloc: Global, scene: &Scene) -> Result<PageRows, AllocError>
         ensures players { IfOk result (λ rows. rows.players.items ≡ players_shown
             scene.now.history.now (game_before scene.now.history.now) scene.now.seats) }
+        ensures worth { IfOk result (λ rows. rows.by_worth.items
+            ≡ leaders_of scene.now.history.now scene.now.seats) }
         ensures roster { IfOk result (λ rows. rows.in_roster.items
             ≡ roster_shown scene.now.history.now (game_before scene.now.history.now)) }
         ensures order { IfOk result (λ rows. rows.in_order.items
@@ -50,6 +55,7 @@ impl PageRows {
         let now = history.now();
         Ok(PageRows {
             players: players_shown(alloc, history, &before, scene.seats)?,
+            by_worth: leaders(alloc, history, scene.seats)?,
             in_roster: roster_shown(alloc, &now, &before)?,
             in_order: order_shown(alloc, history, &before)?,
             privates: privates_shown(alloc, &now)?,
@@ -63,7 +69,7 @@ static PLAYERS: Table = Table {
     name: "players",
     class: "wide",
     caption: "Players and shares",
-    remark: "(P presides; &#9654; has priority; free is cash less bids)",
+    remark: "(by worth; P presides; &#9654; has priority; free is cash less bids)",
     columns: &[
         page_column!("Player"),
         page_column!(Field::Cash, "#Cash"),
@@ -169,9 +175,9 @@ pub fn put_row(out: &mut Writer, scene: &Scene, columns: &[Column], row: &TableR
 pub(crate) fn put_players(out: &mut Writer, scene: &Scene, rows: &PageRows) {
     begin_table_of(out, &PLAYERS);
     out.begin(Tag::TableBody);
-    for row in &rows.players {
-        if let TableRow::OfPlayer(player) = row {
-            put_player(out, scene, player.seat, row);
+    for leader in &rows.by_worth {
+        if let Some(row) = rows.players.get(leader.seat.index()) {
+            put_player(out, scene, leader.seat, row);
         }
     }
     for figure in &FIGURES {

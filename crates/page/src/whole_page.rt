@@ -8,6 +8,7 @@ ghost use Rattle.sheets.specs.File.{IsAccepted};
 use crate::bulletin_part::{bulletin_text, put_bulletin};
 use crate::checksum::{Source, source_of};
 use crate::due::{due_shown, due_told};
+use crate::opens_at::{chart_opens_at, map_opens_at};
 use crate::phases_part::put_phases;
 use crate::result_part::put_result;
 use crate::revenue_part::put_revenue;
@@ -18,15 +19,16 @@ use crate::worth_history::{entries_of, thinned};
 use desk_base::{DeskFault, Moment, Stood, position_at};
 use desk_cells::before_in_stack;
 use history::History;
-use markup::PagePiece::{Round as Named, Words};
-use markup::{Attr, Tag, Writer, begin_plain_section, begin_section};
+use markup::PagePiece::{Count, Round as Named, Words};
+use markup::{Attr, Part, Tag, Writer, begin_plain_section, begin_section};
 use page_ahead::{Panel, STYLE_OF_PANEL, put_panel};
 use page_charts::{ChartToken, ChartTokens, Players, put_chart, put_history};
 use page_map::{
     Scene, begin_map, end_map, moved_in_last_round, put_hexes, put_key, put_labels, put_laid,
     put_tiles_left, square_before_round,
 };
-use page_routes::{Routes, last_routes, put_lines, put_table, put_tags};
+use page_routes::{Routes, last_routes, names_beside, put_lines, put_table, put_tags};
+use picture::PlacedName;
 use rounds::End;
 use sheets::{Sheets, collect};
 use std::alloc::{AllocError, Global};
@@ -52,6 +54,17 @@ struct Told<'a> {
     bulletin: &'a [u8],
 }
 
+/// A page up to its hexes in words, which the caller adds.
+#[derive(Drop)]
+pub struct PageToHexes {
+    pub out: Writer,
+    /// What is written of each hex in words, in the order of the hexes; empty if that is the hex as
+    /// it is now.
+    pub hexes: Vec<Vec<Part>>,
+    /// The names on the map.
+    pub names: Vec<PlacedName>,
+}
+
 /// Returns the page of the game of an order file after a round, or after the last one if none is
 /// named: map, routes, stock chart, history, tables and tiles, as one file of HTML. `due` says when
 /// the next sheets are due; it may be empty.
@@ -68,7 +81,7 @@ pub fn page(
     ensures well_formed { IfOk result (λ page. IsWellFormed page.items) }
     ensures fault { IfErr result (IsMomentFault file.now (moment_after asked)) }
 {
-    let out = begun(alloc, file, asked, due, Form::Whole)?;
+    let PageToHexes { out, .. } = begun(alloc, file, asked, due, Form::Whole)?;
     Ok(out.finish()?)
 }
 
@@ -80,7 +93,7 @@ pub fn page_to_hexes(
     asked: Option<Round>,
     due: &str,
     style: &'static str,
-) -> Result<Writer, DeskFault>
+) -> Result<PageToHexes, DeskFault>
     ensures accepted { OnOk result (IsAccepted file.now) }
     ensures fault { IfErr result (IsMomentFault file.now (moment_after asked)) }
 {
@@ -95,7 +108,7 @@ fn begun(
     asked: Option<Round>,
     due: &str,
     form: Form,
-) -> Result<Writer, DeskFault>
+) -> Result<PageToHexes, DeskFault>
     ensures accepted { OnOk result (IsAccepted file.now) }
     ensures fault { IfErr result (IsMomentFault file.now (moment_after asked)) }
 {
@@ -116,7 +129,7 @@ fn page_of(
     sheets: &Sheets,
     asked: Option<Round>,
     told: Told,
-) -> Result<Writer, DeskFault>
+) -> Result<PageToHexes, DeskFault>
     ensures { IfErr result (IsMomentFault sheets.now (moment_after asked)) }
 {
     let position = position_at(alloc, sheets, Moment::after(asked))?;
@@ -124,7 +137,7 @@ fn page_of(
 }
 
 /// Returns the page of a game at a moment, not yet ended.
-fn page_of_stood(alloc: Global, stood: &Stood, told: Told) -> Result<Writer, AllocError> {
+fn page_of_stood(alloc: Global, stood: &Stood, told: Told) -> Result<PageToHexes, AllocError> {
     let bulletin = bulletin_text(alloc, stood)?;
     let scene = Scene::of(stood);
     let told = Told {
@@ -136,9 +149,10 @@ fn page_of_stood(alloc: Global, stood: &Stood, told: Told) -> Result<Writer, All
 }
 
 /// Returns the page of what a scene shows, not yet ended.
-fn page_text(alloc: Global, scene: &Scene, told: Told) -> Result<Writer, AllocError> {
+fn page_text(alloc: Global, scene: &Scene, told: Told) -> Result<PageToHexes, AllocError> {
     let history = scene.history;
     let routes = last_routes(alloc, history)?;
+    let names = names_beside(alloc, history, &routes)?;
     let entries = entries_of(alloc, history)?;
     let entries = thinned(alloc, entries.as_slice())?;
     let mut out = match told.form {
@@ -149,10 +163,15 @@ fn page_text(alloc: Global, scene: &Scene, told: Told) -> Result<Writer, AllocEr
     put_result(alloc, &mut out, scene)?;
     put_ahead(alloc, &mut out, scene, told)?;
     status_part::put_status(&mut out, scene, told.source);
-    put_map_section(alloc, &mut out, scene, &routes)?;
-    put_bulletin(&mut out, history.now().round(), told.bulletin);
+    put_map_section(alloc, &mut out, scene, &routes, names.as_slice())?;
+    put_bulletin(&mut out, scene, told.bulletin);
     begin_section(&mut out, "chart", "Stock chart", "");
-    put_chart(&mut out, &tokens_of(history));
+    let tokens = tokens_of(history);
+    put_chart(&mut out, &tokens);
+    let opens = Count(chart_opens_at(&tokens));
+    out.begin(Tag::Span);
+    out.value(Attr::Class, &[Words("at at"), opens]);
+    out.end();
     out.end();
     put_history(&mut out, &players_of(scene), entries.as_slice());
     put_tables(alloc, &mut out, scene)?;
@@ -166,7 +185,11 @@ fn page_text(alloc: Global, scene: &Scene, told: Told) -> Result<Writer, AllocEr
     if let Form::Whole = told.form {
         put_hexes(&mut out, scene);
     }
-    Ok(out)
+    Ok(PageToHexes {
+        out,
+        hexes: Vec::new(alloc),
+        names,
+    })
 }
 
 /// Returns the players.
@@ -254,6 +277,7 @@ fn put_map_section(
     out: &mut Writer,
     scene: &Scene,
     routes: &Routes,
+    names: &[PlacedName],
 ) -> Result<(), AllocError> {
     begin_plain_section(out, "map", "Map and routes");
     out.begin_as(Tag::Anchor, "skip");
@@ -266,11 +290,15 @@ fn put_map_section(
         None => out.element(Tag::H2, &[Words("Map")]),
     }
     begin_map(out, scene, routes.round);
-    put_lines(out, scene.history, routes);
-    put_labels(out, scene);
-    put_tags(alloc, out, scene.history, routes)?;
+    put_lines(alloc, out, scene.history, routes)?;
+    put_labels(out, scene, names);
+    put_tags(alloc, out, scene.history, routes, names)?;
     end_map(out);
     put_key(out);
+    let opens = Count(map_opens_at(scene.history));
+    out.begin(Tag::Span);
+    out.value(Attr::Class, &[Words("at at"), opens]);
+    out.end();
     out.end();
     begin_plain_section(out, "routes", "Routes");
     put_table(alloc, out, scene.history, routes)?;

@@ -1,2 +1,3 @@
 pub mod CellWords
 pub mod Runners
+pub mod Told

@@ -144,7 +144,7 @@ fn put_tokens(out: &mut Writer, scene: &Scene, company: Company) -> bool {
 }
 
 /// Adds words, and a place with the name of its city, if it has one.
-fn put_place(out: &mut Writer, words: &'static str, place: Place) {
+pub(crate) fn put_place(out: &mut Writer, words: &'static str, place: Place) {
     out.put(&[Words(words), Placed(place)]);
     if let Some(name) = city_name(place.hex) {
         out.put(&[Words(" "), Words(name)]);

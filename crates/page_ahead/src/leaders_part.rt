@@ -88,21 +88,16 @@ fn put_margin(out: &mut Writer, row: &Leader, first: &Leader, rows: &[Leader]) {
 pub(crate) fn put_begun(out: &mut Writer, events: &[Event]) {
     for event in events {
         if let Some(phase) = event.phase() {
-            put_phase(out, phase);
+            out.begin_as(Tag::Paragraph, "why");
+            out.within();
+            out.put(&[Words("Phase "), Words(phase.code()), Words(" began")]);
+            for &kind in &Kind::ALL {
+                if rusts(kind) == Some(phase) {
+                    out.put(&[Words(": every "), Words(kind.code()), Words(" rusted")]);
+                }
+            }
+            out.put(&[Words(".")]);
+            out.end();
         }
     }
-}
-
-/// Adds that a phase began, and what rusted with it.
-fn put_phase(out: &mut Writer, phase: Kind) {
-    out.begin_as(Tag::Paragraph, "why");
-    out.within();
-    out.put(&[Words("Phase "), Words(phase.code()), Words(" began")]);
-    for &kind in &Kind::ALL {
-        if rusts(kind) == Some(phase) {
-            out.put(&[Words(": every "), Words(kind.code()), Words(" rusted")]);
-        }
-    }
-    out.put(&[Words(".")]);
-    out.end();
 }

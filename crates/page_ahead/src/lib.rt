@@ -9,11 +9,11 @@
 //! pages of `games/page/` test the layout.
 //!
 //! The definitions, in `specs/`: `CellWords` (constant words), `Runners` (what is listed before a
-//! round).
+//! round), `Told` (what is told of the events of a round).
 //!
 //! Reading order: `cell_words` (`put_words_of`), `table_part` (`Table`, `put_cells`),
 //! `runner_rows`, `panel` (`put_panel`), `leaders_part`, `runners_part`, `dues_part`, `sale_part`,
-//! `style`.
+//! `style`; `told` and `story_part` (`put_story`: what happened in the last round).
 #![tactic(auto)]
 
 mod cell_words;
@@ -23,11 +23,14 @@ mod panel;
 mod runner_rows;
 mod runners_part;
 mod sale_part;
+mod story_part;
 mod style;
 mod table_part;
+mod told;
 
 pub use cell_words::{name_of, put_words_of};
 pub use panel::{Panel, put_panel};
 pub use runner_rows::{Must, falls_due, must_of, price_on, rows_ahead};
+pub use story_part::put_story;
 pub use style::STYLE_OF_PANEL;
 pub use table_part::{Column, Table, begin_table_of, put_cell_in, put_cells};

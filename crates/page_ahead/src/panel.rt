@@ -31,7 +31,12 @@ pub fn put_panel(alloc: Global, out: &mut Writer, panel: &Panel) -> Result<(), A
     put_players(alloc, out, panel)?;
     out.end();
     out.begin(Tag::Division);
-    put_listed(alloc, out, panel)?;
+    let rows = rows_ahead(alloc, panel.scene.history, panel.round)?;
+    match panel.round {
+        Round::Operating { .. } => put_runners(alloc, out, panel, rows.as_slice())?,
+        Round::Opening(_) => put_privates_for_sale(out, panel, rows.as_slice()),
+        Round::Stock(_) => put_shares_for_sale(out, panel, rows.as_slice()),
+    }
     out.end();
     out.end();
     Ok(())
@@ -50,17 +55,6 @@ fn put_players(alloc: Global, out: &mut Writer, panel: &Panel) -> Result<(), All
     if !matches!(panel.round, Round::Operating { .. }) {
         let rows = player_rows(alloc, history, &before, seats)?;
         put_certificates(out, panel, rows.as_slice());
-    }
-    Ok(())
-}
-
-/// Adds what is listed before the round. Fails only if allocation fails.
-fn put_listed(alloc: Global, out: &mut Writer, panel: &Panel) -> Result<(), AllocError> {
-    let rows = rows_ahead(alloc, panel.scene.history, panel.round)?;
-    match panel.round {
-        Round::Operating { .. } => put_runners(alloc, out, panel, rows.as_slice())?,
-        Round::Opening(_) => put_privates_for_sale(out, panel, rows.as_slice()),
-        Round::Stock(_) => put_shares_for_sale(out, panel, rows.as_slice()),
     }
     Ok(())
 }
@@ -109,15 +103,10 @@ fn put_awaited(out: &mut Writer, panel: &Panel) {
     let mut is_first = true;
     for number in 0..panel.scene.seats {
         if panel.scene.owe.get(number) == Some(&true) {
-            put_owing(out, is_first, panel.scene.name(Seat::at(number)));
+            out.put(&[Words(if is_first { "owed by " } else { ", " })]);
+            out.element(Tag::Bold, &[Name(panel.scene.name(Seat::at(number)))]);
             is_first = false;
         }
     }
     out.end();
-}
-
-/// Adds a player who owes a sheet.
-fn put_owing(out: &mut Writer, is_first: bool, name: &[u8]) {
-    out.put(&[Words(if is_first { "owed by " } else { ", " })]);
-    out.element(Tag::Bold, &[Name(name)]);
 }

@@ -8,21 +8,13 @@ use crate::replayed::Replayed;
 use crate::whole_page::{Told, page_to_hexes, put_hexes};
 use best_run::Search;
 use desk_base::{DeskFault, Moment, Position, position_at, stood_now};
-use markup::{Part, Writer};
-use page::{Source, due_shown, due_told, entries_of, source_of};
+use markup::Writer;
+use page::{PageToHexes, Source, due_shown, due_told, entries_of, source_of};
 use page_map::Scene;
 use rounds::{Play, Step};
 use sheets::{Sheets, collect};
 use std::alloc::{AllocError, Global};
 use tables::Round;
-
-/// A page up to its hexes in words, which the caller adds.
-#[derive(Drop)]
-pub struct PageToHexes {
-    pub out: Writer,
-    /// What is written of each hex in words, in the order of the hexes.
-    pub hexes: Vec<Vec<Part>>,
-}
 
 /// Returns the page of the game of an order file with all its rounds up to one, or to the last if
 /// none is named, and a button for each. Of more than 60 rounds it shows the last 60. `due` says
@@ -63,7 +55,7 @@ pub fn page_of_all_to_hexes(
 fn ended_page(page: PageToHexes) -> Result<Vec<u8>, AllocError>
     ensures { IfOk result (λ page. IsWellFormed page.items) }
 {
-    let PageToHexes { out, hexes } = page;
+    let PageToHexes { out, hexes, .. } = page;
     let mut out = out;
     put_hexes(&mut out, hexes.as_slice());
     out.finish()
@@ -143,5 +135,6 @@ fn page_of_scene(
     Ok(PageToHexes {
         out: page_to_hexes(alloc, scene, replayed, told)?,
         hexes: replayed.hex_words(alloc)?,
+        names: Vec::from_slice(alloc, replayed.names.as_slice())?,
     })
 }

@@ -14,7 +14,7 @@ use page::{put_result, tokens_of};
 use page_charts::put_squares;
 use page_map::{Scene, begin_ground, has_drawing, put_rims, put_sight, put_stops};
 use page_routes::{Routes, put_tags};
-use picture::{Look, draw_track};
+use picture::{Look, PlacedName, draw_track};
 use replay::Layers;
 use std::alloc::{AllocError, Global};
 
@@ -123,8 +123,8 @@ pub(crate) struct Shown<'a> {
     pub(crate) routes: &'a Routes,
     /// The number of the drawing of each; `None` for a route without a line.
     pub(crate) lines: &'a [Option<usize>],
-    /// What happened in the round.
-    pub(crate) turns: &'a [u8],
+    /// The names on the map.
+    pub(crate) names: &'a [PlacedName],
     /// Since when the tiles and tokens are on the map.
     pub(crate) since: &'a Since,
 }
@@ -143,7 +143,7 @@ pub(crate) fn layers_of(
     }
     for &hex in &Hex::ALL {
         for &layer in &HEX_LAYERS {
-            layers.push(parts_of_hex(alloc, layer, scene, hex, drawings)?)?;
+            layers.push(parts_of_hex(alloc, layer, scene, shown, hex, drawings)?)?;
         }
     }
     for cell in cells_of(alloc, scene)? {
@@ -166,9 +166,9 @@ fn parts_of(
     match layer {
         Layer::Result => put_result(alloc, &mut out, scene)?,
         Layer::Lines => put_lines(&mut out, history, shown.routes, shown.lines),
-        Layer::Sums => put_tags(alloc, &mut out, history, shown.routes)?,
+        Layer::Sums => put_tags(alloc, &mut out, history, shown.routes, shown.names)?,
         Layer::Runs => put_route_rows(alloc, &mut out, history, shown.routes, shown.lines)?,
-        Layer::Turns => put_turns(&mut out, history.now().round(), shown.turns),
+        Layer::Turns => put_turns(&mut out, scene),
         Layer::Chart => put_squares(&mut out, &tokens_of(history), false),
         Layer::NewTiles => put_new_tiles(&mut out, shown.since),
         Layer::NewTokens => put_new_tokens(&mut out, history, shown.since),
@@ -181,6 +181,7 @@ fn parts_of_hex(
     alloc: Global,
     layer: HexLayer,
     scene: &Scene,
+    shown: Shown,
     hex: Hex,
     drawings: &mut Drawings,
 ) -> Result<Vec<Part>, AllocError> {
@@ -199,7 +200,7 @@ fn parts_of_hex(
                 }
             }
         }
-        HexLayer::Stops => put_stops(&mut out, scene, &look),
+        HexLayer::Stops => put_stops(&mut out, scene, &look, shown.names),
         HexLayer::Words => {
             put_sight(&mut out, scene, &look);
             out.end_part();

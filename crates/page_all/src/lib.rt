@@ -39,4 +39,4 @@ mod tables_part;
 mod what_happened;
 mod whole_page;
 
-pub use all_rounds::{PageToHexes, page_of_all, page_of_all_to_hexes};
+pub use all_rounds::{page_of_all, page_of_all_to_hexes};

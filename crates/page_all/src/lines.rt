@@ -61,7 +61,7 @@ fn line_of(
     number: usize,
 ) -> Result<Option<Part>, AllocError> {
     let mut out = Writer::of_parts(alloc);
-    put_line(&mut out, history, routes, number);
+    put_line(alloc, &mut out, history, routes, number)?;
     let mut parts = out.finish_parts()?;
     Ok(parts.pop())
 }

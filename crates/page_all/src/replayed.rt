@@ -5,12 +5,12 @@ use crate::drawings::Drawings;
 use crate::layers::{Shown, layers_of};
 use crate::lines::line_numbers;
 use crate::since::Since;
-use crate::what_happened::turns_text;
 use desk_base::Stood;
 use page::Source;
 use page_charts::Entry;
 use page_map::Scene;
-use page_routes::{Routes, last_routes};
+use page_routes::{Routes, last_routes, names_beside};
+use picture::PlacedName;
 use replay::Layers;
 use std::alloc::{AllocError, Global};
 use tables::{Kind, Round};
@@ -36,6 +36,8 @@ pub(crate) struct Replayed {
     pub(crate) entries: Vec<Entry>,
     /// What is drawn once.
     pub(crate) drawings: Drawings,
+    /// The names on the map after the last of them.
+    pub(crate) names: Vec<PlacedName>,
     /// The runs of the last operating round so far.
     routes: Option<Routes>,
     /// Since when the tiles and tokens are on the map.
@@ -55,6 +57,7 @@ impl Replayed {
             phases: Vec::new(alloc),
             pages: Vec::new(alloc),
             lines: Vec::new(alloc),
+            names: Vec::new(alloc),
             before,
             passed: 0,
             entries,
@@ -87,18 +90,19 @@ impl Replayed {
             Some(routes) => routes,
             None => last_routes(alloc, stood.history)?,
         };
-        let turns = turns_text(alloc, stood)?;
         self.since.add(stood.history, self.pages.len())?;
         let lines = line_numbers(alloc, stood.history, &routes, &mut self.drawings)?;
+        let names = names_beside(alloc, stood.history, &routes)?;
         let shown = Shown {
             routes: &routes,
             lines: lines.as_slice(),
-            turns: turns.as_slice(),
+            names: names.as_slice(),
             since: &self.since,
         };
         let page = layers_of(alloc, &Scene::of(stood), shown, &mut self.drawings)?;
         self.pages.push(page)?;
         self.lines.push(lines)?;
+        self.names = names;
         self.routes = Some(routes);
         Ok(())
     }

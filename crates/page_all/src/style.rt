@@ -27,9 +27,8 @@ pub(crate) const STYLE_OF_BUTTONS: &str = "\
     .with{margin:0;padding:2px 0 6px;font-size:13px}\
     .with label{display:inline-block;padding:3px 5px;margin:0 2px 2px 0}\
     [name=round]:focus-visible~.rounds,[name=with]:focus-visible~.with{outline:3px solid #1668b8}\n\
-    .told{tab-size:4}\n\
     #runs label{white-space:nowrap}#runs input{margin:0 4px 0 0}\n\
-    @media screen and (max-width:700px){.strip{flex-wrap:nowrap}.strip label{padding-bottom:11px}\
+    @media screen and (max-width:700px){nav{white-space:nowrap;overflow-x:auto}.strip{flex-wrap:nowrap}.strip label{padding-bottom:11px}\
     .with label{padding:13px 8px}}\n\
     @media print{.rounds,.with,#runs input{display:none}}\n";
 

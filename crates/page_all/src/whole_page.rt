@@ -11,10 +11,11 @@ use crate::route_rows::begin_routes;
 use crate::style::{STYLE_OF_BUTTONS, put_boxes_style, put_lines_style};
 use crate::tables_part::put_tables;
 use map_tables::Hex;
-use markup::PagePiece::{Hex as Hexed, Words};
+use markup::PagePiece::{Count, Hex as Hexed, Words};
 use markup::{Attr, Part, Tag, Writer, begin_plain_section, begin_section};
 use page::{
-    STYLE, STYLE_OF_DUE, players_of, put_links, put_names, put_next, put_skip, put_source, thinned,
+    STYLE, STYLE_OF_DUE, chart_opens_at, map_opens_at, players_of, put_links, put_names, put_next,
+    put_skip, put_source, thinned, tokens_of,
 };
 use page_charts::{begin_chart, end_chart, put_history};
 use page_map::{Scene, begin_hex, begin_hexes, begin_picture, end_map, put_borders, put_key};
@@ -48,7 +49,7 @@ pub(crate) fn page_to_hexes(
     begin_page(&mut out, scene, replayed, told);
     replayed.put_status(alloc, &mut out, scene, told.due)?;
     replayed.put_layer(alloc, &mut out, Layer::Result, Tag::Division)?;
-    replayed.put_map(alloc, &mut out)?;
+    replayed.put_map(alloc, &mut out, scene)?;
     begin_plain_section(&mut out, "routes", "Routes");
     begin_routes(&mut out);
     replayed.put_layer(alloc, &mut out, Layer::Runs, Tag::TableBody)?;
@@ -61,6 +62,10 @@ pub(crate) fn page_to_hexes(
     begin_chart(&mut out);
     replayed.put_layer(alloc, &mut out, Layer::Chart, Tag::Group)?;
     end_chart(&mut out);
+    let opens = Count(chart_opens_at(&tokens_of(scene.history)));
+    out.begin(Tag::Span);
+    out.value(Attr::Class, &[Words("at at"), opens]);
+    out.end();
     out.end();
     put_history(&mut out, &players_of(scene), entries.as_slice());
     put_tables(alloc, &mut out, scene, replayed)?;
@@ -182,7 +187,7 @@ impl Replayed {
     }
 
     /// Adds the map and the routes on it.
-    fn put_map(&self, alloc: Global, out: &mut Writer) -> Result<(), AllocError> {
+    fn put_map(&self, alloc: Global, out: &mut Writer, scene: &Scene) -> Result<(), AllocError> {
         let words = "Map and the routes of the last operating round";
         begin_section(out, "map", words, "");
         begin_picture(out, None);
@@ -208,6 +213,10 @@ impl Replayed {
         self.put_new(alloc, out, Layer::NewTokens)?;
         end_map(out);
         put_key(out);
+        let opens = Count(map_opens_at(scene.history));
+        out.begin(Tag::Span);
+        out.value(Attr::Class, &[Words("at at"), opens]);
+        out.end();
         out.end();
         Ok(())
     }

@@ -184,6 +184,12 @@ fn put_stack(out: &mut Writer, tokens: &ChartTokens, square: Square) {
     for place in (0..Company::ALL.len()).rev() {
         if let Some(token) = token_at(tokens, square, place) {
             let at = place_of(tokens, token);
+            if token.is_new {
+                // A white edge, since the ring is too like an orange or a brown square.
+                let start = at.minus(Point { x: 9, y: 0 });
+                let around = Words("a9 9 0 1 0 18 0a9 9 0 1 0-18 0");
+                out.path("mw", &[Words("M"), To(start), around]);
+            }
             out.token("#m", token.company, at);
             if token.is_new {
                 out.sign("#nm", at);
@@ -206,7 +212,9 @@ fn put_arrow(out: &mut Writer, tokens: &ChartTokens, token: &ChartToken, has_hea
     let start = corner_of(from).plus(Point { x: 30, y: 36 });
     let direction = Point { x: across, y: down };
     let tip = place_of(tokens, token).minus(direction.times(ring_along(across, down)));
-    out.path("mv", &[Words("M"), To(start), Words("L"), To(tip)]);
+    for &class in &["mw", "mv"] {
+        out.path(class, &[Words("M"), To(start), Words("L"), To(tip)]);
+    }
     if !has_head {
         return;
     }

@@ -13,12 +13,21 @@ use map_tables::Hex;
 use markup::PagePiece::Words;
 use markup::{Part, Tag, Writer, begin_section};
 use page_map::{Scene, begin_hex, begin_hexes};
+use picture::PlacedName;
 use sheets::{Sheets, collect};
 use std::alloc::Global;
 
+/// What the page has so far.
+#[derive(Clone, Copy)]
+pub struct Drawn<'a> {
+    /// What is written of each hex; if it is empty, that is the hex as it is now.
+    pub words: &'a [Vec<Part>],
+    /// The names on the map.
+    pub names: &'a [PlacedName],
+}
+
 /// Ends the page of the game of an order file: adds its hexes in words, with what companies may lay
-/// and place on each in the next round, and what each player may do. `words` has what is written of
-/// each hex; if it is empty, that is the hex as it is now.
+/// and place on each in the next round, and what each player may do.
 ///
 /// Fails with `File` if the file is refused, with `Round` if the named round was not played, and
 /// with `Memory` if allocation fails.
@@ -28,7 +37,7 @@ pub fn end_page<P: Progress>(
     out: Writer,
     file: &[u8],
     wanted: Wanted,
-    words: &[Vec<Part>],
+    drawn: Drawn,
     progress: &mut P,
 ) -> Result<Vec<u8>, DeskFault>
     ensures well_formed { IfOk result (λ page. IsWellFormed page.items) }
@@ -36,7 +45,7 @@ pub fn end_page<P: Progress>(
 {
     let mut out = out;
     let sheets = collect(alloc, file)?;
-    put_moves(alloc, &mut out, &sheets, wanted, words, progress)?;
+    put_moves(alloc, &mut out, &sheets, wanted, drawn, progress)?;
     Ok(out.finish()?)
 }
 
@@ -46,13 +55,13 @@ fn put_moves<P: Progress>(
     out: &mut Writer,
     sheets: &Sheets,
     wanted: Wanted,
-    words: &[Vec<Part>],
+    drawn: Drawn,
     progress: &mut P,
 ) -> Result<(), DeskFault>
     ensures { IfErr result (IsMomentFault sheets.now (moment_after wanted.entry.after)) }
 {
     let position = position_at(alloc, sheets, Moment::after(wanted.after))?;
-    put_moves_of(alloc, out, &position.stood(), wanted, words, progress)
+    put_moves_of(alloc, out, &position.stood(), wanted, drawn, progress)
 }
 
 /// Adds what may be done in a game at a moment.
@@ -61,18 +70,18 @@ fn put_moves_of<P: Progress>(
     out: &mut Writer,
     stood: &Stood,
     wanted: Wanted,
-    words: &[Vec<Part>],
+    drawn: Drawn,
     progress: &mut P,
 ) -> Result<(), DeskFault>
     ensures { IfErr result (IsMomentFault stood.now.sheets.now (moment_after wanted.entry.after)) }
 {
     let scene = Scene::of(stood);
     let Some(may) = may_in(alloc, stood.sheets, wanted, progress)? else {
-        put_over(out, &scene, words);
+        put_over(out, &scene, drawn.words);
         return Ok(());
     };
-    put_hexes(alloc, out, &scene, &may, words)?;
-    Ok(put_may(alloc, out, &scene, &may, wanted)?)
+    put_hexes(alloc, out, &scene, &may, drawn.words)?;
+    Ok(put_may(alloc, out, &scene, &may, wanted, drawn.names)?)
 }
 
 /// Adds the hexes, and that the game is over.

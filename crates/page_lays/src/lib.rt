@@ -37,5 +37,5 @@ mod steps_part;
 mod style;
 
 pub use company_turns::Wanted;
-pub use ending::end_page;
+pub use ending::{Drawn, end_page};
 pub use style::STYLE;

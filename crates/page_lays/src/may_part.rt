@@ -10,6 +10,7 @@ use crate::steps_part::put_company;
 use markup::PagePiece::{Name, Round as Named, Words};
 use markup::{Tag, Writer, begin_section};
 use page_map::Scene;
+use picture::PlacedName;
 use std::alloc::{AllocError, Global};
 use tables::{Company, Round};
 
@@ -31,14 +32,15 @@ const OF_A_LINE: &str =
 /// What a line shows besides, if it shows the revenue of best runs.
 const OF_RUNS: &str = " After a + comes how much more the company's best runs would earn.";
 
-/// Adds what may be done: the position, the players, the turns and the sheet. Fails only if
-/// allocation fails.
+/// Adds what may be done: the position, the players, the turns and the sheet, given the names on
+/// the map. Fails only if allocation fails.
 pub(crate) fn put_may(
     alloc: Global,
     out: &mut Writer,
     scene: &Scene,
     may: &May,
     wanted: Wanted,
+    names: &[PlacedName],
 ) -> Result<(), AllocError> {
     begin_section(out, "may", "What may be done", "");
     out.begin(Tag::Paragraph);
@@ -61,7 +63,7 @@ pub(crate) fn put_may(
     }
     put_missing(out, may, wanted.companies);
     out.end();
-    put_rims(out, scene, may);
+    put_rims(alloc, out, scene, may, names)?;
     put_sheet(out, scene, may);
     Ok(())
 }

@@ -46,8 +46,11 @@ pub(crate) fn lines_of<P: Progress>(
 }
 
 /// Returns what the trains would earn after a lay or a token. An earlier line with the same track
-/// has the same revenue.
+/// has the same revenue, and no trains earn nothing.
 fn best_of(trains: Trains, before: &[Line], what: Move) -> Result<Money, AllocError> {
+    if trains.kinds.is_empty() {
+        return Ok(0);
+    }
     for line in before {
         if let Some(best) = line.best
             && is_same_track(line.row.what, what)

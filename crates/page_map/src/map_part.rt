@@ -6,13 +6,14 @@ use crate::legend::{put_legend, put_parts};
 use crate::scene::Scene;
 use crate::signs::put_signs;
 use crate::tokens::{markers_in, private_in};
+use board_state::same_hex;
 use history::Holder;
 use map_tables::{Hex, Lay, printed_value, terrain_cost};
 use markup::PagePiece::{Count, Hex as Hexed, Number, Round as Named, Words};
 use markup::{Attr, Point, Tag, Writer};
 use picture::{
-    BASELINE, Look, Shade, Stops, centre, cost_point, draw_stops, draw_track, kind_point, names_on,
-    private_point, signs_of, value_point,
+    BASELINE, Look, PlacedName, Shade, Stops, centre, cost_point, draw_stops, draw_track,
+    kind_point, private_point, value_point,
 };
 use tables::{Kind, Money, Private, Round};
 
@@ -37,11 +38,12 @@ pub fn begin_picture(out: &mut Writer, routes_of: Option<Round>) {
     put_parts(out);
 }
 
-/// Adds the stops and labels of all hexes, above the routes, and begins the layers above them.
-pub fn put_labels(out: &mut Writer, scene: &Scene) {
+/// Adds the stops and labels of all hexes, with the names on the map, above the routes, and begins
+/// the layers above them.
+pub fn put_labels(out: &mut Writer, scene: &Scene, names: &[PlacedName]) {
     out.begin_as(Tag::Group, "top");
     for &hex in &Hex::ALL {
-        put_hex(out, scene, &Look::on(scene.history.lays(), hex));
+        put_hex(out, scene, &Look::on(scene.history.lays(), hex), names);
     }
 }
 
@@ -158,14 +160,15 @@ pub fn has_drawing(look: &Look) -> bool {
 }
 
 /// Adds the stops of a hex with their tokens, and its labels.
-fn put_hex(out: &mut Writer, scene: &Scene, look: &Look) {
+fn put_hex(out: &mut Writer, scene: &Scene, look: &Look, names: &[PlacedName]) {
     out.begin_at(centre(look.hex));
-    put_stops(out, scene, look);
+    put_stops(out, scene, look, names);
     out.end();
 }
 
-/// Adds the stops of a hex with their tokens, and its labels, for a group at its centre.
-pub fn put_stops(out: &mut Writer, scene: &Scene, look: &Look) {
+/// Adds the stops of a hex with their tokens, its labels and those of the names on the map that are
+/// its own, for a group at its centre.
+pub fn put_stops(out: &mut Writer, scene: &Scene, look: &Look, names: &[PlacedName]) {
     draw_stops(out, look, &markers_in(scene.history, look.hex, look.slots));
     match look.stops {
         Stops::Area => put_area(out, scene, look.hex),
@@ -179,14 +182,16 @@ pub fn put_stops(out: &mut Writer, scene: &Scene, look: &Look) {
     if let Some(lay) = look.lay {
         put_tile(out, lay);
     }
-    put_names(out, look);
+    put_names(out, look.hex, names);
 }
 
-/// Adds the names of a hex, where it has room for them.
-fn put_names(out: &mut Writer, look: &Look) {
-    let names = names_on(look, signs_of(look));
-    for name in [names.first, names.second].iter().flatten() {
-        out.label("nm", name.frame.middle.down(BASELINE), &[Words(name.words)]);
+/// Adds those of the names on the map that are of a hex, for a group at its centre.
+fn put_names(out: &mut Writer, hex: Hex, names: &[PlacedName]) {
+    for name in names {
+        if same_hex(name.hex, hex) {
+            let place = name.frame.middle.minus(centre(hex)).down(BASELINE);
+            out.label("nm", place, &[Words(name.words)]);
+        }
     }
 }
 

@@ -5,7 +5,7 @@ use history::History;
 use map_tables::{Hex, StopNumber, private_hexes, terrain_cost};
 use markup::Point;
 use picture::{
-    Look, Stops, centre, cost_point, kind_point, names_on, private_point, signs_of, value_point,
+    Look, PlacedName, Stops, centre, cost_point, kind_point, private_point, value_point,
 };
 use std::alloc::{AllocError, Global};
 use tables::Private;
@@ -37,7 +37,7 @@ impl Frame {
 }
 
 /// The frames of the map's legend.
-const LEGEND: [Frame; 3] = [
+pub(crate) const LEGEND: [Frame; 3] = [
     Frame {
         from: Point { x: 20, y: 0 },
         to: Point { x: 300, y: 244 },
@@ -52,11 +52,20 @@ const LEGEND: [Frame; 3] = [
     },
 ];
 
-/// Returns the parts of the map that must stay readable. Fails only if allocation fails.
-pub(crate) fn obstacles(alloc: Global, history: &History) -> Result<Vec<Frame>, AllocError> {
+/// Returns the parts of the map that must stay readable, given its names. Fails only if allocation
+/// fails.
+pub(crate) fn obstacles(
+    alloc: Global,
+    history: &History,
+    names: &[PlacedName],
+) -> Result<Vec<Frame>, AllocError> {
     let mut frames = Vec::new(alloc);
     for frame in &LEGEND {
         frames.push(*frame)?;
+    }
+    for name in names {
+        let its = name.frame;
+        frames.push(Frame::around(its.middle, its.across, its.down))?;
     }
     for &hex in &Hex::ALL {
         add_frames(&mut frames, &Look::on(history.lays(), hex))?;
@@ -81,11 +90,6 @@ fn add_frames(frames: &mut Vec<Frame>, look: &Look) -> Result<(), AllocError> {
     }
     if let Some(place) = kind_point(look) {
         frames.push(Frame::around(middle.plus(place), 14, 9))?;
-    }
-    let names = names_on(look, signs_of(look));
-    for name in [names.first, names.second].iter().flatten() {
-        let its = name.frame;
-        frames.push(Frame::around(middle.plus(its.middle), its.across, its.down))?;
     }
     add_stops(frames, look, middle)?;
     for &private in &Private::ALL {

@@ -8,7 +8,8 @@ use history::History;
 use map_tables::Side;
 use markup::PagePiece::{Number, Place, Point as To, Words};
 use markup::{Attr, Point, Tag, Writer};
-use picture::{Bend, Look, Way, bend_between, border_point, centre, put_way, towards};
+use picture::{Bend, Curve, Look, Way, bend_between, border_point, centre, put_way, towards};
+use std::alloc::{AllocError, Global};
 use tables::Money;
 
 /// A run as drawn, among those that share its borders.
@@ -22,15 +23,21 @@ struct Course<'a> {
     ghost listed: { number ≤ length routes.now },
 }
 
-/// Adds the lines of the routes.
-pub fn put_lines(out: &mut Writer, history: &History, shown: &Routes) {
+/// Adds the lines of the routes. Fails only if allocation fails.
+pub fn put_lines(
+    alloc: Global,
+    out: &mut Writer,
+    history: &History,
+    shown: &Routes,
+) -> Result<(), AllocError> {
     for (number, route) in shown.routes.iter().enumerate() {
         let course = course_of(history, shown, number);
+        let curves = course.curves(alloc, route)?;
         out.begin(Tag::Group);
         put_title(out, route);
         for class in ["ra", "rb", "rc"] {
             out.begin_as(Tag::Path, class);
-            course.put_data(out, route);
+            put_data(out, curves.as_slice());
             if class == "rc" {
                 out.line_colour(route.company);
                 out.line_dash(route.company);
@@ -40,6 +47,7 @@ pub fn put_lines(out: &mut Writer, history: &History, shown: &Routes) {
         course.put_ticks(out, route);
         out.end();
     }
+    Ok(())
 }
 
 /// Returns the run with a number among the routes.
@@ -56,12 +64,45 @@ fn course_of<'a>(history: &'a History, shown: &'a Routes, number: usize) -> Cour
 }
 
 /// Adds the line of the route with a number as a path without a class; nothing if there is no such
-/// route.
-pub fn put_line(out: &mut Writer, history: &History, shown: &Routes, number: usize) {
-    if let Some(route) = shown.routes.as_slice().get(number) {
+/// route. Fails only if allocation fails.
+pub fn put_line(
+    alloc: Global,
+    out: &mut Writer,
+    history: &History,
+    shown: &Routes,
+    number: usize,
+) -> Result<(), AllocError> {
+    let curves = curves_of(alloc, history, shown, number)?;
+    if !curves.is_empty() {
         out.begin(Tag::Path);
-        course_of(history, shown, number).put_data(out, route);
+        put_data(out, curves.as_slice());
         out.end();
+    }
+    Ok(())
+}
+
+/// Returns the line of the route with a number, curve by curve; none if there is no such route.
+/// Fails only if allocation fails.
+pub(crate) fn curves_of(
+    alloc: Global,
+    history: &History,
+    shown: &Routes,
+    number: usize,
+) -> Result<Vec<Curve>, AllocError> {
+    match shown.routes.as_slice().get(number) {
+        Some(route) => course_of(history, shown, number).curves(alloc, route),
+        None => Ok(Vec::new(alloc)),
+    }
+}
+
+/// Adds the data of a line.
+fn put_data(out: &mut Writer, curves: &[Curve]) {
+    out.attr(Attr::D);
+    for (number, curve) in curves.iter().enumerate() {
+        if number == 0 {
+            out.put(&[Words("M"), To(curve.from)]);
+        }
+        put_way(out, curve.way, curve.to);
     }
 }
 
@@ -101,32 +142,33 @@ impl Course<'_> {
             .plus(self.shift(visit, side))
     }
 
-    /// Adds the data of the line: from its first stop over each border, and by each stop, to its
-    /// last.
-    fn put_data(&self, out: &mut Writer, route: &Route) {
-        out.attr(Attr::D);
+    /// Returns the curves of the line: from its first stop over each border, and by each stop, to
+    /// its last.
+    fn curves(&self, alloc: Global, route: &Route) -> Result<Vec<Curve>, AllocError> {
+        let mut curves = Vec::new(alloc);
         let mut came = None;
-        for (number, visit) in route.visits.iter().enumerate() {
-            match (stop_point(self.history, visit.place), came) {
-                (Some(place), _) if number == 0 => out.put(&[Words("M"), To(place)]),
-                (Some(place), Some(side)) => {
-                    let (first, last) = self.between(visit, side, place);
-                    put_way(out, Way::Between(first, last), place);
+        let mut from = Point::CENTRE;
+        for visit in &route.visits {
+            if let Some(to) = stop_point(self.history, visit.place) {
+                if let Some(side) = came {
+                    let (first, last) = self.between(visit, side, to);
+                    let way = Way::Between(first, last);
+                    curves.push(Curve { from, way, to })?;
                 }
-                _ => {}
+                from = to;
             }
             if let Some(side) = visit.leaves {
-                put_way(
-                    out,
-                    self.departure(visit, came, side),
-                    self.crossing(visit, side),
-                );
+                let way = self.departure(visit, came, side);
+                let to = self.crossing(visit, side);
+                curves.push(Curve { from, way, to })?;
+                from = to;
             }
             came = match visit.leaves {
                 Some(side) => Some(side.facing()),
                 None => None,
             };
         }
+        Ok(curves)
     }
 
     /// Returns the points between which the line goes from a side to the place of a stop. It stays

@@ -9,6 +9,7 @@ use history::History;
 use map_tables::Place;
 use markup::PagePiece::{At, Number, Point as To, Words};
 use markup::{Point, Writer};
+use picture::PlacedName;
 use std::alloc::{AllocError, Global};
 use tables::{Amount, Money};
 
@@ -46,16 +47,17 @@ const DIRECTIONS: [Point; 12] = [
 /// How far from a stop a tag may be, in tenths of the directions.
 const DISTANCES: [i32; 6] = [24, 30, 38, 48, 60, 75];
 
-/// Adds the tags of the routes. Fails only if allocation fails.
+/// Adds the tags of the routes, given the names on the map. Fails only if allocation fails.
 pub fn put_tags(
     alloc: Global,
     out: &mut Writer,
     history: &History,
     shown: &Routes,
+    names: &[PlacedName],
 ) -> Result<(), AllocError> {
     let routes = shown.routes.as_slice();
     let mut taken = Taken {
-        frames: obstacles(alloc, history)?,
+        frames: obstacles(alloc, history, names)?,
         crossings: crossings_of(alloc, routes, shown.turned.as_slice())?,
     };
     for (number, route) in routes.iter().enumerate() {

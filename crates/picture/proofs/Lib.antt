@@ -1,2 +1,3 @@
 -- What the proofs of pictures share.
 pub mod FrameLemmas
+pub mod NameLemmas

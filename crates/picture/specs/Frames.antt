@@ -1,6 +1,6 @@
 -- The rectangles that signs and texts take in a picture, and which of them are free for one more.
 -- Edges are counted to the right and downwards.
-use Rattle.std.specs.Prelude.{ℤ, ◌+ℤ◌, ◌-ℤ◌, int_lt, int_le, Bool, ◌&&◌, not, List, [], ◌∷◌, Option, None, Some}
+use Rattle.std.specs.Prelude.{ℤ, ◌+ℤ◌, ◌-ℤ◌, int_lt, int_le, Bool, ◌&&◌, not, List, filter}
 use Rattle.std.specs.List.{list_any}
 use Rattle.markup.specs.declared.point.Point.{Point}
 use Rattle.picture.specs.declared.frames.Frame.{Frame}
@@ -43,7 +43,6 @@ is_free room taken frame = holds room frame && not (meets_any taken frame)
 abbrev pub fits : Frame → List Frame → Point → Point → Bool
 fits room taken half place = is_free room taken (frame_around place half.x half.y)
 
--- the frames that a text takes: its own, or none if it has no place
-abbrev pub frame_of : Option Frame → List Frame
-frame_of None = []
-frame_of (Some frame) = frame ∷ []
+-- those of some frames that reach into a room
+abbrev pub reaching : Frame → List Frame → List Frame
+reaching room frames = filter (λ frame. meets frame room) frames

@@ -1,12 +1,13 @@
-//! The room that signs and texts have in a hex, and where there is room for one more.
+//! The rectangles that signs and texts take, and where there is room for one more text.
 ghost use Rattle.std.specs.Prelude.{◌≡◌, ◌<◌, ◌≤◌, ◌+◌, ◌+ℤ◌, ◌-ℤ◌, ◌++◌, ◌∷◌, [], length, true};
-ghost use Rattle.std.specs.Prelude.{None, IfSome};
+ghost use Rattle.std.specs.Prelude.{None, IfSome, OnOk};
 ghost use Rattle.std.specs.List.{find};
-ghost use Rattle.picture.specs.Frames.{fits, frame_around, frame_of, holds, is_free, is_within, meets};
-ghost use Rattle.picture.specs.Frames.{meets_any, overlap};
+ghost use Rattle.picture.specs.Frames.{fits, frame_around, holds, is_free, is_within, meets};
+ghost use Rattle.picture.specs.Frames.{meets_any, overlap, reaching};
 
 use arrayvec::ArrayVec;
 use markup::Point;
+use std::alloc::AllocError;
 
 /// How many frames a hex has room for.
 pub const FRAMES_MOST: usize = 40;
@@ -35,6 +36,11 @@ impl Frame {
             across,
             down,
         }
+    }
+
+    /// Returns the same frame moved by a point.
+    pub fn moved(self, by: Point) -> Frame {
+        Frame::around(self.middle.plus(by), self.across, self.down)
     }
 
     /// Returns whether it overlaps another. Frames that only touch do not.
@@ -119,11 +125,12 @@ fn first_free(room: &Frame, taken: &[Frame], half: Point, places: &[Point]) -> O
     None
 }
 
-/// Returns the first of some places where a text is free and off the track; `None` if there is
-/// none.
-fn first_off_track(
+/// Returns the first of some places where a text is free, within a part of the room, and off the
+/// track; `None` if there is none.
+fn first_within(
     room: &Frame,
     taken: &[Frame],
+    part: &Frame,
     track: &[Frame],
     half: Point,
     places: &[Point],
@@ -131,58 +138,71 @@ fn first_off_track(
     ensures { IfSome result (λ place. fits room.now taken.now half place ≡ true) }
 {
     for place in places {
-        if fits(room, taken, half, *place)
-            && !meets_any(track, &Frame::around(*place, half.x, half.y))
-        {
+        let frame = Frame::around(*place, half.x, half.y);
+        if part.holds(&frame) && fits(room, taken, half, *place) && !meets_any(track, &frame) {
             return Some(*place);
         }
     }
     None
 }
 
-/// Returns where a text of these half sizes may be: the first of some places where it is free and
-/// off the track, otherwise the first where it is free. `None` if it is free at none.
-fn place_text(
-    room: &Frame,
+/// Where a text may be.
+#[derive(Clone, Copy)]
+pub(crate) struct Site<'a> {
+    /// Its room.
+    pub(crate) room: Frame,
+    /// The part of the room where it is placed if that is possible.
+    pub(crate) part: Frame,
+    /// What it avoids if that is possible.
+    pub(crate) track: &'a [Frame],
+}
+
+/// Returns the first of some places where a text is free, if possible within the part of its room,
+/// and there off the track. `None` if it is over the track or beyond the part at each.
+fn first_fitting(site: &Site, taken: &[Frame], half: Point, places: &[Point]) -> Option<Point>
+    ensures { IfSome result (λ place. fits site.now.room taken.now half place ≡ true) }
+{
+    let room = &site.room;
+    if let Some(place) = first_within(room, taken, &site.part, site.track, half, places) {
+        return Some(place);
+    }
+    if let Some(place) = first_within(room, taken, &site.part, &[], half, places) {
+        return Some(place);
+    }
+    first_within(room, taken, room, site.track, half, places)
+}
+
+/// Returns where a text of these half sizes may be: the first of some places where it is free, if
+/// possible within the part of its room, and there off the track. `None` if it is free at none.
+pub(crate) fn place_text(
+    site: &Site,
     taken: &[Frame],
-    track: &[Frame],
     half: Point,
     places: &[Point],
 ) -> Option<Point>
-    ensures free { IfSome result (λ place. fits room.now taken.now half place ≡ true) }
-    ensures none { result ≡ None → find (fits room.now taken.now half) places.now ≡ None }
+    ensures free { IfSome result (λ place. fits site.now.room taken.now half place ≡ true) }
+    ensures none { result ≡ None → find (fits site.now.room taken.now half) places.now ≡ None }
 {
-    match first_off_track(room, taken, track, half, places) {
+    match first_fitting(site, taken, half, places) {
         Some(place) => Some(place),
-        None => first_free(room, taken, half, places),
+        None => first_free(&site.room, taken, half, places),
     }
 }
 
-/// Places a text of these half sizes around one of some points where it overlaps none of the frames
-/// that are taken, off the track if that is possible, and takes its frame. Returns `None` if it is
-/// free at none.
-pub(crate) fn place_line(
+/// Adds those of some frames that reach into a room.
+pub(crate) fn add_reaching(
+    near: &mut Vec<Frame>,
     room: &Frame,
-    taken: &mut Frames,
-    track: &[Frame],
-    half: Point,
-    places: &[Point],
-) -> Option<Frame>
-    ensures free { IfSome result (λ frame. is_free room.now taken.old.items frame ≡ true) }
-    ensures across { IfSome result (λ frame. frame.across ≡ half.x) }
-    ensures down { IfSome result (λ frame. frame.down ≡ half.y) }
-    ensures none { result ≡ None → find (fits room.now taken.old.items half) places.now ≡ None }
-    ensures taken { length taken.old.items < 40 →
-        taken.new.items ≡ taken.old.items ++ frame_of result }
+    frames: &[Frame],
+) -> Result<(), AllocError>
+    ensures { OnOk result (near.new.items ≡ near.old.items ++ reaching room.now frames.now) }
 {
-    match place_text(room, taken.as_slice(), track, half, places) {
-        Some(place) => {
-            let frame = Frame::around(place, half.x, half.y);
-            take(taken, frame);
-            Some(frame)
+    for frame in frames {
+        if frame.meets(room) {
+            near.push(*frame)?;
         }
-        None => None,
     }
+    Ok(())
 }
 
 /// Adds a frame to those that are taken. Beyond `FRAMES_MOST` there is no room for more; no hex has

@@ -6,12 +6,12 @@
 //!
 //! The definitions, in `specs/`: `Points` (the points of a hex), `Curves` (the ends of a link, and
 //! how it bends), `Lanes` (where runs cross a border), `ClosedSides` (the closed borders of a hex),
-//! `Frames` (which places are free for a text), `Names` (the room for names and pills).
+//! `Frames` (which places are free for a text), `Names` (where names and pills are).
 //!
 //! Reading order: `point`, `bend`, `look` (what shows in a hex, and where), `curve`, `strands`,
 //! `labels` (where there is room for a label), `lanes`, `closed_borders`, `city_names`, `frames`
-//! (places for texts), `taken` (the frames of a hex), `names` (where its names are), `pills` (where
-//! its pills are), `drawing` (its track and stops).
+//! (places for texts), `taken` (the frames of a hex), `names` (where the names are), `pills` (where
+//! the pills of a hex are), `drawing` (its track and stops).
 #![tactic(auto)]
 
 mod bend;
@@ -38,7 +38,6 @@ pub use frames::{Frame, Frames};
 pub use labels::{cost_point, kind_point, private_point, value_point};
 pub use lanes::{LANES_MOST, lane_shift};
 pub use look::{Look, Shade, Stops};
-pub use names::{BASELINE, Names, PlacedName, names_on};
+pub use names::{BASELINE, Kept, PlacedName, names_on, signs_on};
 pub use pills::{pill_half, place_pill, words_of};
 pub use point::{Ring, border_point, centre, on_ring};
-pub use taken::signs_of;

@@ -1,22 +1,20 @@
 //! The pills of the map, each with the code of a company and a sum: where a hex has room for them.
-ghost use Rattle.std.specs.Prelude.{◌≡◌, ◌<◌, ◌≤◌, ◌+◌, ◌++◌, length, true, IfSome};
-ghost use Rattle.picture.specs.Frames.{frame_of, is_free};
-ghost use Rattle.picture.specs.Names.{frame_of_name, pill_half, pill_room, word_frames};
+ghost use Rattle.std.specs.Prelude.{◌≡◌, ◌++◌, IfOk, IfSome, true};
+ghost use Rattle.picture.specs.Frames.{is_free};
+ghost use Rattle.picture.specs.Names.{coordinate, frames_of_pill, pill_half, pill_room, word_frames};
 
-use crate::frames::{Frame, Frames, place_line, take};
+use crate::frames::{Frame, Site, add_reaching, place_text};
 use crate::look::Look;
-use crate::names::{Names, PlacedName, places_near};
+use crate::names::{PlacedName, frames_of, places_near};
+use crate::point::centre;
 use crate::taken::{COORDINATE, signs_of};
-use arrayvec::ArrayVec;
+use map_tables::Hex;
 use markup::Point;
+use std::alloc::{AllocError, Global};
 use tables::Money;
 
-/// The part of a hex in which a pill may be.
-const ROOM: Frame = Frame {
-    middle: Point::CENTRE,
-    across: 52,
-    down: 51,
-};
+/// How far from the centre of its hex a pill may reach to both sides, and up and down.
+const REACH: Point = Point { x: 52, y: 51 };
 
 /// How far up and down from its middle a pill goes.
 const DOWN: i32 = 8;
@@ -26,41 +24,76 @@ const ROWS: [i32; 15] = [
     40, 36, 43, -36, -40, -43, -30, 30, 14, 8, 0, -8, -14, -20, 22,
 ];
 
-/// Returns the frames that no pill may hide: those of the coordinate and of the names of a hex.
-pub fn words_of(names: &Names) -> Frames
-    ensures { result.items ≡ word_frames names.now }
+/// Returns the part of the map in which a pill of a hex may be.
+fn room_of(hex: Hex) -> Frame
+    ensures { result ≡ pill_room hex }
 {
-    let mut frames = ArrayVec::new();
-    take(&mut frames, COORDINATE);
-    take_name(&mut frames, names.first);
-    take_name(&mut frames, names.second);
-    frames
+    Frame::around(centre(hex), REACH.x, REACH.y)
 }
 
-/// Adds the frame of a name, if it is shown.
-fn take_name(taken: &mut Frames, name: Option<PlacedName>)
-    ensures items { length taken.old.items < 40 →
-        taken.new.items ≡ taken.old.items ++ frame_of_name name }
-    ensures most { length taken.new.items ≤ length taken.old.items + 1 }
+/// Returns the frames of the map that no pill of a hex may hide: that of its coordinate, and those
+/// of the names that reach into its room. Fails only if allocation fails.
+pub fn words_of(alloc: Global, hex: Hex, names: &[PlacedName]) -> Result<Vec<Frame>, AllocError>
+    ensures { IfOk result (λ words. words.items ≡ word_frames hex names.now) }
 {
-    if let Some(name) = name {
-        take(taken, name.frame);
-    }
+    let mut words = Vec::new(alloc);
+    words.push(coordinate_of(hex))?;
+    add_reaching(
+        &mut words,
+        &room_of(hex),
+        frames_of(alloc, names)?.as_slice(),
+    )?;
+    Ok(words)
 }
 
-/// Returns where a pill of this half width is in a hex, and takes its frame. It hides none of the
+/// Returns the frame of the coordinate of a hex, on the map.
+fn coordinate_of(hex: Hex) -> Frame
+    ensures { result ≡ coordinate hex }
+{
+    let middle = centre(hex);
+    Frame::around(
+        Point {
+            x: middle.x - 40,
+            y: middle.y + 26,
+        },
+        COORDINATE.across,
+        COORDINATE.down,
+    )
+}
+
+/// Returns where a pill of this half width is on the map, and takes its frame. It hides none of the
 /// frames that are taken, and no other sign of the hex if that is possible. `None` if there is no
-/// room.
-pub fn place_pill(look: &Look, taken: &mut Frames, across: i32) -> Option<Frame>
-    ensures free { IfSome result (λ frame. is_free pill_room taken.old.items frame ≡ true) }
-    ensures across { IfSome result (λ frame. frame.across ≡ across) }
-    ensures taken { length taken.old.items < 40 →
-        taken.new.items ≡ taken.old.items ++ frame_of result }
+/// room. Fails only if allocation fails.
+pub fn place_pill(
+    look: &Look,
+    taken: &mut Vec<Frame>,
+    across: i32,
+) -> Result<Option<Frame>, AllocError>
+    ensures free { IfOk result (λ place. IfSome place (λ frame.
+        is_free (pill_room look.now.hex) taken.old.items frame ≡ true)) }
+    ensures across { IfOk result (λ place. IfSome place (λ frame. frame.across ≡ across)) }
+    ensures taken { IfOk result (λ place.
+        taken.new.items ≡ taken.old.items ++ frames_of_pill place) }
 {
     let half = Point { x: across, y: DOWN };
-    let signs = signs_of(look);
-    let places = places_near(Point::CENTRE, &ROWS);
-    place_line(&ROOM, taken, signs.as_slice(), half, places.as_slice())
+    let middle = centre(look.hex);
+    let mut signs = signs_of(look);
+    for sign in &mut signs {
+        *sign = sign.moved(middle);
+    }
+    let room = room_of(look.hex);
+    let site = Site {
+        room,
+        part: room,
+        track: signs.as_slice(),
+    };
+    let places = places_near(middle, &ROWS);
+    let Some(place) = place_text(&site, taken.as_slice(), half, places.as_slice()) else {
+        return Ok(None);
+    };
+    let frame = Frame::around(place, half.x, half.y);
+    taken.push(frame)?;
+    Ok(Some(frame))
 }
 
 /// Returns half the width of a pill, given the number of letters of the company's code and the sum,

@@ -4,6 +4,7 @@ use crate::curve::{Way, track_of};
 use crate::frames::{Frame, Frames, take};
 use crate::labels::{cost_point, kind_point, private_point, value_point};
 use crate::look::{Look, Stops};
+use crate::point::centre;
 use arrayvec::ArrayVec;
 use board_state::same_hex;
 use map_tables::{StopNumber, private_hexes, terrain_cost};
@@ -88,8 +89,9 @@ fn take_privates(frames: &mut Frames, look: &Look) {
     }
 }
 
-/// Returns frames along the track of a hex.
+/// Returns frames along the track of a hex, on the map.
 pub(crate) fn track_frames(look: &Look) -> Frames {
+    let middle = centre(look.hex);
     let mut frames = ArrayVec::new();
     for curve in track_of(look, look.places()).as_slice() {
         // The point towards which the curve leaves both its ends, or nearly so.
@@ -104,7 +106,7 @@ pub(crate) fn track_frames(look: &Look) -> Frames {
         for &step in &STEPS {
             let before = curve.from.towards(by, step);
             let place = before.towards(by.towards(curve.to, step), step);
-            take(&mut frames, Frame::around(place, 6, 6));
+            take(&mut frames, Frame::around(place.plus(middle), 6, 6));
         }
     }
     frames

@@ -61,7 +61,7 @@ fn seven_runs(alloc: Global) -> Result<Routes, AllocError> {
 fn lines_of_seven(alloc: Global) -> Result<Vec<u8>, AllocError> {
     let runs = seven_runs(alloc)?;
     let mut out = Writer::page(alloc);
-    put_lines(&mut out, &History::start(alloc, 3), &runs);
+    put_lines(alloc, &mut out, &History::start(alloc, 3), &runs)?;
     out.finish()
 }
 

@@ -6,6 +6,6 @@ use Rattle.picture.proofs.frames.place_text.Goals as goal
 
 pub returns-in-None-clause-free : goal.returns-in-None-clause-free
 returns-in-None-clause-free c =
-    subst (λ (found : Option Point). IfSome found (λ place. fits c.args.room.now c.args.taken.now c.args.half place ≡ true))
+    subst (λ (found : Option Point). IfSome found (λ place. fits c.args.site.now.room c.args.taken.now c.args.half place ≡ true))
     (sym c.first_free.ensures)
-    (found_passes (fits c.args.room.now c.args.taken.now c.args.half) c.args.places.now)
+    (found_passes (fits c.args.site.now.room c.args.taken.now c.args.half) c.args.places.now)
