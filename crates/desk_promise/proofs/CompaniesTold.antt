@@ -11,11 +11,13 @@ use Rattle.desk_may.specs.OperatingLines.{AddsOperatingLines, AreRaiseLines, Hav
 use Rattle.desk_may.specs.OperatingLines.{company_head, private_rows_of, raise_rows_of, train_lines, train_rows_of}
 use Rattle.desk_may.specs.RowLines.{row_line, row_lines}
 use Rattle.desk_may.specs.SheetLines.{standing_lines}
-use Rattle.desk_promise.specs.CompanyLines.{IsHeadAwaited, IsReportedSo, ruled_second}
+use Rattle.desk_promise.specs.CompanyLines.{IsHeadAwaited, order_file, ruled_second}
 use Rattle.desk_promise.specs.CompanyRows.{IsRowReported, PrivateRowsAreReported, RaiseRowsAreReported, TrainRowsAreReported}
 use Rattle.desk_promise.specs.CompanyRows.{once_forced}
 use Rattle.desk_promise.specs.LineFile.{IsEnded}
 use Rattle.desk_promise.specs.LinesTold.{AreTrueCompanies, AreTrueOrders, in_one}
+use Rattle.desk_promise.specs.Moves.{MovesAsTold, MovesInOrders}
+use Rattle.desk_promise.specs.Reported.{IsReportedNext}
 use Rattle.events.specs.declared.ruling.Refusal.{Refusal}
 use Rattle.events.specs.declared.ruling.Refusal.TheVariants as refusal
 use Rattle.events.specs.declared.ruling.TrainRule.TheVariants.{NoConsent}
@@ -191,13 +193,32 @@ same_rule presidents (WithConsent price giver (offer.Train kind seller buyer cos
       | false ↦ refl
     ]
 
+-- nor does it move anything then
+same_moves : (presidents : List (Option Seat)) (answer : Answer) (Moves : ℕ → List Event → Type 0) (moved : List Event)
+    → MovesAsTold answer Moves moved → MovesAsTold (as_offered presidents answer) Moves moved
+same_moves presidents (Obeyed price) Moves moved told = told
+same_moves presidents (Refused rule) Moves moved told = told
+same_moves presidents (WithConsent price giver sale) Moves moved told =
+    elim (may_offer presidents giver sale) as (λ (b : Bool).
+    MovesAsTold (if b then WithConsent price giver sale else Refused (refusal.Train NoConsent)) Moves moved) [
+      | true ↦ told
+      | false ↦ told
+    ]
+
 -- so such a row is as the report says if the row is
 offered_reported : (file : List ℕ) (game : Game) (round : Round) (by : Operator) (head : Game)
     (presidents : List (Option Seat)) (row : Row) → IsRowReported file game round by head row
     → IsRowReported file game round by head (offered_row presidents row)
-offered_reported file game round by head presidents row reported =
-    λ fit. subst (λ (rule : Option Refusal). IsReportedSo file game round by row.order head
-    (ruled_second by (judged None (Play row.order) rule) ∷ [])) (sym (same_rule presidents row.answer)) (reported fit)
+offered_reported file game round by head presidents row reported fit also text report =
+    let its = reported fit also text report in
+    record {
+      moved = its.moved;
+      as_told = same_moves presidents row.answer (MovesInOrders head by row.order) its.moved its.as_told;
+      reported =
+          subst (λ (rule : Option Refusal). IsReportedNext (order_file file round by row.order) text game round head
+          (ruled_second by (judged None (Play row.order) rule) ∷ its.moved)) (sym (same_rule presidents row.answer))
+          its.reported;
+    }
 
 all_offered : (file : List ℕ) (game : Game) (round : Round) (by : Operator) (head : Game)
     (presidents : List (Option Seat)) (rows : List Row) → AllByRecursion (IsRowReported file game round by head) rows

@@ -5,6 +5,7 @@ use Rattle.std.specs.Prelude.{if◌then◌else◌, unwrap_or}
 use Rattle.std.proofs.lemmas.Bool.{cases_eq}
 use Rattle.std.proofs.lemmas.Bool.Decides.{nat_tests}
 use Rattle.desk_promise.proofs.CompanySheets.{company_lines_fit, one_company, parts_of_one}
+use Rattle.desk_promise.proofs.GameBefore.{is_posted}
 use Rattle.desk_promise.proofs.LineFiles.{has_sheets}
 use Rattle.desk_promise.proofs.Longer.{◌⨾◌, GoesOn}
 use Rattle.desk_promise.proofs.Names.{ReadWhereSpelt}
@@ -39,7 +40,7 @@ use Rattle.tables.specs.declared.round.Round.TheVariants.{Operating}
 use Rattle.totals.specs.LookBack.{Game}
 
 -- companies differ either way
-differ_too : (a b : Company) → same_company a b ≡ false → same_company b a ≡ false
+pub differ_too : (a b : Company) → same_company a b ≡ false → same_company b a ≡ false
 differ_too a b apart = grind (arith, nat_tests, apart)
 
 -- the laws on which the promise rests: how lines are read, how rounds are played, and how turns are
@@ -131,7 +132,8 @@ module _ (laws : Laws) (file : List ℕ) (last : Between) (set number : ℕ) (co
       let told : (head : Game) (said : List Event) → GoesOn orders.turn.game.events head.events
       → GoesOn (head.events ++ said) played.new.events → IsReportedNext new text last.game round head said =
       λ head said behind stands.
-      played_reported laws.rounds file new last round orders.by.president lines awaited.plays awaited.comes has also
+      played_reported laws.rounds file new last round awaited.plays awaited.comes
+      (is_posted file new round orders.by.president lines has) also
       played.new played.played text report head said (reaches.heading ⨾ behind) stands in
       record {
         next = reaches.line.next;

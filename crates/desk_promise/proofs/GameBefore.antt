@@ -11,7 +11,7 @@ use Rattle.rounds.specs.Play.{AreRounds, Between, IsPlayed, IsRound, before_play
 use Rattle.rounds.specs.ReadAlike.{ReadAlikeFor, SameSheetsAreReadAlike}
 use Rattle.rounds.specs.declared.following.Next.{Next}
 use Rattle.rounds.specs.declared.following.Next.TheVariants as next
-use Rattle.sheets.specs.File.{all_posted, players_of, sheet_of}
+use Rattle.sheets.specs.File.{all_posted, players_of, sheet_of, version_of}
 use Rattle.tables.specs.Round as rounds
 use Rattle.tables.specs.declared.round.Round.{Round}
 use Rattle.tables.specs.declared.seat.Seat.{Seat}
@@ -25,8 +25,29 @@ each_posted test first (suc count) each =
     and_from (test first) (list_all test (range_with_len (first + 1) count)) (each first (omega arith) (omega arith))
     (each_posted test (first + 1) count (λ k from within. each k (omega (arith, from)) (omega (arith, within))))
 
-module _ (alike : SameSheetsAreReadAlike) (file new : List ℕ) (round : Round) (seat : Seat) (lines : List (List ℕ))
-    (has : HasSheets file new round seat lines) where
+-- a file has sheets of all players for a round, and those for other rounds are as in another file
+pub record IsPosted (file new : List ℕ) (round : Round) : Type 0 where
+  pub players : players_of new ≡ players_of file
+  pub version : version_of new ≡ version_of file
+  pub each : (seat : ℕ) → seat < length (players_of file) → is_some (sheet_of new seat round) ≡ true
+  pub elsewhere : (seat : ℕ) (before : Round) → rounds.same_round round before ≡ false
+      → sheet_of new seat before ≡ sheet_of file seat before
+
+pub is_posted : (file new : List ℕ) (round : Round) (seat : Seat) (lines : List (List ℕ))
+    → HasSheets file new round seat lines → IsPosted file new round
+is_posted file new round seat lines has =
+    record {
+      players = has.players;
+      version = has.version;
+      each = λ k below. elim (cases_eq k seat.0) [
+        | inl same ↦ ap (λ (n : ℕ). is_some (sheet_of new n round)) same
+            ∙ ap (λ (sheet : Option (List (List ℕ))). is_some sheet) has.own
+        | inr apart ↦ ap (λ (sheet : Option (List (List ℕ))). is_some sheet) (has.others k below apart)
+      ];
+      elsewhere = has.elsewhere;
+    }
+
+module _ (alike : SameSheetsAreReadAlike) (file new : List ℕ) (round : Round) (has : IsPosted file new round) where
   -- the sheets for a round that all have posted are read alike, if this one is awaited
   read_so : all_posted file round ≡ false → (before : Round) → all_posted file before ≡ true → ReadAlikeFor before file new
   read_so awaited before posted =
@@ -51,13 +72,8 @@ module _ (alike : SameSheetsAreReadAlike) (file new : List ℕ) (round : Round) 
   pub now_posted : all_posted new round ≡ true
   now_posted =
       each_posted (λ k. is_some (sheet_of new k round)) 0 (length (players_of new))
-      (λ k from within. let below : k < length (players_of new) = omega (arith, within) in elim (cases_eq k seat.0) [
-        | inl same ↦ ap (λ (n : ℕ). is_some (sheet_of new n round)) same
-            ∙ ap (λ (sheet : Option (List (List ℕ))). is_some sheet) has.own
-        | inr apart ↦
-            ap (λ (sheet : Option (List (List ℕ))). is_some sheet)
-            (has.others k (subst (λ (players : List (List ℕ)). k < length players) has.players below) apart)
-      ])
+      (λ k from within. let below : k < length (players_of new) = omega (arith, within) in
+      has.each k (subst (λ (players : List (List ℕ)). k < length players) has.players below))
 
 -- the game after one more round
 abbrev pub after_round : Round → Between → Game → Between

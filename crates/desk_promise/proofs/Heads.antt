@@ -1,6 +1,6 @@
 -- SHEET lines of players at the end of a file, one after another, each of which begins an empty sheet.
 use Rattle.std.proofs.Common.{◌≡◌, ℕ, zero, suc, ◌+◌, ◌<◌, ◌≤◌, ◌==◌, Bool, true, false, cond, List, [], ◌∷◌, ◌++◌}
-use Rattle.std.proofs.Common.{Option, Some, None, refl, sym, ap, ◌∙◌, inl, inr, arith}
+use Rattle.std.proofs.Common.{Option, Some, None, append-nil, refl, sym, ap, ◌∙◌, inl, inr, arith}
 use Rattle.std.specs.Option.{option_or}
 use Rattle.std.specs.Prelude.{◌&&◌, ◌||◌, if◌then◌else◌, not}
 use Rattle.std.specs.List.{flat_map, range_with_len}
@@ -155,3 +155,15 @@ module _ (players : List (List ℕ)) (round : Round) (tried seats : ℕ) (head :
         (if same_sheet_key (sheet_key_at tried round) (sheet_key_at seat its) then Some lines else None))
         (none_elsewhere seat its other 0 seats)
         ∙ grind (arith, other)
+
+    -- the sheet of that seat alone
+    pub one_found : (sheet_key : SheetKey) → sheet_in players (head tried ∷ lines) sheet_key
+        ≡ (if same_sheet_key (sheet_key_at tried round) sheet_key then Some lines else None)
+    one_found sheet_key =
+        ap (λ (all : List (List ℕ)). sheet_in players (head tried ∷ all) sheet_key) (sym (append-nil lines))
+        ∙ ap (λ (later : Option (List (List ℕ))). option_or later
+        (lines_begun sheet_key (sheet_lines (lines ++ [])) (begins players (head tried))))
+        (none_begun players lines [] sheet_key none)
+        ∙ ap (λ (its : List (List ℕ)). lines_begun sheet_key its (begins players (head tried)))
+        (own_lines lines [] none refl)
+        ∙ ap (λ (begun : Option SheetKey). lines_begun sheet_key lines begun) (begin tried own)

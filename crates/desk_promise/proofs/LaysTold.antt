@@ -1,9 +1,9 @@
 -- The lays and tokens of a company that are told are as the reports say.
 use Rattle.std.specs.Int.RustNames.{unsigned_abs}
-use Rattle.std.proofs.Common.{◌≡◌, ℕ, ℤ, List, [], ◌∷◌, ◌++◌, append_assoc, refl, sym, ap, subst, ◌∙◌, inl, inr}
+use Rattle.std.proofs.Common.{◌≡◌, ℕ, ℤ, List, [], ◌∷◌, refl, sym, ap, subst, ◌∙◌, inl, inr}
 use Rattle.std.specs.List.{AllByRecursion}
 use Rattle.desk_promise.proofs.CompanyPromise.{Laws, order_stands}
-use Rattle.desk_promise.proofs.Longer.{GoesOn, stays}
+use Rattle.desk_promise.proofs.Longer.{GoesOn, both_added, stays}
 use Rattle.desk_promise.proofs.OrdersReached.{is_head, starts}
 use Rattle.desk_promise.proofs.TurnSheets.{line_at}
 use Rattle.desk_promise.specs.CompanyLines.{IsHeadAwaited, IsLayRefused, IsLayReported, IsTokenRefused, IsTokenReported}
@@ -41,11 +41,6 @@ each_listed P (one ∷ others) each = (each one (inl refl), each_listed P others
 -- a list that is this one goes on from it
 pub as_said : (old new : List Event) → new ≡ old → GoesOn old new
 as_said old new is = subst (λ (list : List Event). GoesOn old list) (sym is) stays
-
--- two events that are added one after another
-pub both_added : (events : List Event) (first second : Event)
-    → (events ++ first ∷ []) ++ second ∷ [] ≡ events ++ first ∷ second ∷ []
-both_added events first second = append_assoc events (first ∷ []) (second ∷ [])
 
 -- an order leads where it does from the start of the turn
 pub from_start : (orders : OrdersState) (order : PlayOrder) (next : TurnState)

@@ -7,6 +7,7 @@ pub mod SheetText
 pub mod PlayWords
 pub mod AtTable
 pub mod LineFiles
+pub mod OfferFiles
 pub mod UnbrokenOrders
 pub mod TurnSheets
 pub mod CompanySheets
@@ -15,9 +16,12 @@ pub mod Longer
 pub mod LongerTurns
 pub mod RaiseAlike
 pub mod FirstTurn
+pub mod Moved
+pub mod OrdersMoved
 pub mod Ruled
 pub mod GameBefore
 pub mod OrdersReached
+pub mod OfferedReached
 pub mod ReportText
 pub mod TurnPromise
 pub mod PlayedReport
@@ -27,7 +31,10 @@ pub mod StockPromise
 pub mod OpeningPromise
 pub mod RowsTold
 pub mod RaisesTold
+pub mod OfferedTold
 pub mod StandingTold
+pub mod WithOffer
+pub mod OfferedHead
 pub mod CompaniesTold
 pub mod LinesTold
 pub mod LaysText

@@ -13,22 +13,13 @@ use Rattle.history.specs.Record.{after_revenues, breaks, paid_to_owner, with_bro
 use Rattle.market.specs.Moves.{fallen, up_of}
 use Rattle.market.specs.OperatingOrder.{operating_order_of}
 use Rattle.market.specs.Token.{moved_from, same_square}
-use Rattle.order_grammar.specs.declared.order.Order.{Order}
-use Rattle.order_grammar.specs.declared.order.Order.TheVariants as order
-use Rattle.order_grammar.specs.declared.play.PlayOrder.TheVariants as play
-use Rattle.privates.specs.Bank.{price_of_private}
 use Rattle.privates.specs.Closing.{after_fall, all_sold, given_away, opening_round_closed}
 use Rattle.privates.specs.Sale.{after_private_sale, gifts, settle_auctions, settled, settled_by, settled_of}
-use Rattle.privates.specs.Turn.{after_opening_order}
-use Rattle.stock_round.specs.Buy.{share_bought}
 use Rattle.stock_round.specs.Closing.{all_risen, is_sold_out, risen, stock_round_closed}
-use Rattle.stock_round.specs.Exchange.{exchange_source, exchanged}
 use Rattle.stock_round.specs.Float.{is_to_float, with_float}
-use Rattle.stock_round.specs.Orders.{after_stock_order}
 use Rattle.tables.specs.Roster.{privates, revenue_of}
 use Rattle.tables.specs.Steps.{iterate}
 use Rattle.tables.specs.declared.roster.Company.{Company}
-use Rattle.tables.specs.declared.roster.Company.TheVariants.{NewYorkCentral}
 use Rattle.tables.specs.declared.roster.Private.{Private}
 use Rattle.tables.specs.declared.roster.Private.TheVariants.{SchuylkillValley}
 use Rattle.tables.specs.declared.seat.Seat.{Seat}
@@ -55,6 +46,11 @@ pub ◌⨾◌ : {a b c : List Event} → GoesOn a b → GoesOn b c → GoesOn a 
 
 pub by_events : (events more : List Event) → GoesOn events (events ++ more)
 by_events events more = record { more = more; longer = refl }
+
+-- two events that are added one after another
+pub both_added : (events : List Event) (first second : Event)
+    → (events ++ first ∷ []) ++ second ∷ [] ≡ events ++ first ∷ second ∷ []
+both_added events first second = append_assoc events (first ∷ []) (second ∷ [])
 
 pub in_either : {old one other : List Event} (b : Bool) → GoesOn old one → GoesOn old other
     → GoesOn old (if b then one else other)
@@ -84,7 +80,7 @@ by_float game company =
     stays
 
 -- by what follows from a share that a seat now has
-by_share : (game : Game) (company : Company)
+pub by_share : (game : Game) (company : Company)
     → GoesOn game.events (with_float (with_president game company) company).events
 by_share game company = by_president game company ⨾ by_float (with_president game company) company
 
@@ -95,28 +91,22 @@ by_move move events company None = stays
 by_move move events company (Some square) =
     in_either (same_square (move square) square) stays (by_events events (event.Moves company (move square) ∷ []))
 
+-- by what follows once shares are sold
+pub by_sold : (game : Game) (seat : Seat) (company : Company) (shares : ℕ)
+    → GoesOn (game.events ++ event.Sells company seat shares (shares * market_price_of game.events company) ∷ [])
+    (after_sale game seat company shares).events
+by_sold game seat company shares =
+    let paid : Game = sold game seat company shares in
+    let presided : List Event = (with_president paid company).events in
+    by_broken game.seats (game.events ++ event.Sells company seat shares (shares * market_price_of game.events company) ∷ [])
+    ⨾ by_president paid company ⨾ by_move (fallen shares) presided company (square_of presided company)
+
 -- by a sale of shares
 pub by_sale : (game : Game) (seat : Seat) (company : Company) (shares : ℕ)
     → GoesOn game.events (after_sale game seat company shares).events
 by_sale game seat company shares =
-    let paid : Game = sold game seat company shares in
-    let presided : List Event = (with_president paid company).events in
     by_events game.events (event.Sells company seat shares (shares * market_price_of game.events company) ∷ [])
-    ⨾ by_broken game.seats (game.events ++ event.Sells company seat shares (shares * market_price_of game.events company) ∷ [])
-    ⨾ by_president paid company ⨾ by_move (fallen shares) presided company (square_of presided company)
-
--- by an order of a stock round that is done
-pub by_stock_order : (game : Game) (seat : Seat) (done : Order)
-    → GoesOn game.events (after_stock_order game seat done).events
-by_stock_order game seat (order.Play (play.Par company price)) =
-    by_events game.events (event.Par company price ∷ []) ⨾ by_events _ _ ⨾ by_events _ (event.President company seat ∷ [])
-by_stock_order game seat (order.Play (play.BuyShare company from)) =
-    by_events game.events _ ⨾ by_share (share_bought game seat company from) company
-by_stock_order game seat (order.Play (play.Sell company shares)) = by_sale game seat company shares
-by_stock_order game seat (order.Play play.ExchangeMohawk) =
-    by_events game.events (event.Exchanged seat (exchange_source game.events) ∷ [])
-    ⨾ by_share (exchanged game seat) NewYorkCentral
-by_stock_order game seat other = stays
+    ⨾ by_sold game seat company shares
 
 -- by the rises of companies that are sold out
 by_rises : (events : List Event) (companies : List Company) → GoesOn events (all_risen events companies)
@@ -150,19 +140,10 @@ by_steps : (step : List Event → List Event) → ((events : List Event) → Goe
 by_steps step each zero events = stays
 by_steps step each (suc count) events = by_steps step each count events ⨾ each (iterate step count events)
 
-by_settling : (seats : ℕ) (events : List Event) → GoesOn events (settled seats events)
+pub by_settling : (seats : ℕ) (events : List Event) → GoesOn events (settled seats events)
 unfolding settled
 by_settling seats events =
     by_steps (settle_auctions seats) (λ list. by_cheapest seats list (cheapest_of list)) 6 events
-
--- by an order of an opening that is done
-pub by_opening_order : (seats : ℕ) (seat : Seat) (events : List Event) (done : Order)
-    → GoesOn events (after_opening_order seats seat events done)
-by_opening_order seats seat events (order.Play (play.BuyPrivate private)) =
-    by_private events private seat (price_of_private events private) ⨾ by_settling seats _
-by_opening_order seats seat events (order.Play (play.Bid private amount)) =
-    by_events events (event.Bids private seat amount ∷ [])
-by_opening_order seats seat events other = stays
 
 -- by the revenues of privates
 by_revenue : (seats : ℕ) (events : List Event) (private : Private) (owner : Option Holder)

@@ -1,12 +1,10 @@
 -- What a company buys, and what its president sells for it, only adds events at the end of the list.
-use Rattle.std.proofs.Common.{ℕ, [], ◌∷◌, Option, Some, None, pos}
+use Rattle.std.proofs.Common.{[], ◌∷◌, Option, Some, None, pos}
 use Rattle.std.specs.Int.Signed.{lt_z}
 use Rattle.certs.specs.declared.share_deal.Sale.{Sale}
 use Rattle.desk_promise.proofs.Longer.{◌⨾◌, GoesOn, by_events, by_sale, stays}
 use Rattle.events.specs.declared.event.Event.{Event}
 use Rattle.events.specs.declared.event.Event.TheVariants as event
-use Rattle.events.specs.declared.event.Holder.{Holder}
-use Rattle.events.specs.declared.event.Holder.TheVariants as holder
 use Rattle.forced_purchase.specs.Forced.{concluded, next_to_sell, one_share, sold_further, sold_singly, with_aid, with_one_sold}
 use Rattle.forced_purchase.specs.Raise.{after_presidents_sale}
 use Rattle.forced_purchase.specs.Shortfall.{cheapest, falls_short, lack_of}
@@ -14,11 +12,9 @@ use Rattle.forced_purchase.specs.declared.operator.Operator.{Operator}
 use Rattle.purchases.proofs.TrainSteps.{IsPassedOn, of_bop, of_choice, of_iterate, of_next, of_phase, of_trade}
 use Rattle.purchases.proofs.TrainSteps.{of_train_owner}
 use Rattle.purchases.specs.Phases.{with_phase}
-use Rattle.purchases.specs.Private.{sold_by}
 use Rattle.purchases.specs.Train.{after_train, begins_phase, train_bought, train_purchase_cost, with_trade}
 use Rattle.purchases.specs.declared.train.TrainPurchase.{TrainPurchase}
 use Rattle.tables.specs.declared.roster.Company.{Company}
-use Rattle.tables.specs.declared.roster.Private.{Private}
 use Rattle.totals.specs.LookBack.{Game, with_event}
 use Rattle.totals.specs.Trains.{at_least_zero}
 
@@ -32,35 +28,36 @@ lengthens_on = record { same = λ game. stays; both = λ a b c first second. fir
 by_event : (game : Game) (its : Event) → Lengthens game (with_event game its)
 by_event game its = by_events game.events (its ∷ [])
 
+-- the train that goes to a company
+abbrev train_came : Company → TrainPurchase → Event
+train_came company purchase = event.Train company purchase.kind purchase.from (train_purchase_cost purchase)
+
+-- by what follows once a train has gone to it
+pub by_train_came : (game : Game) (company : Company) (purchase : TrainPurchase)
+    → Lengthens (with_event (with_trade game company purchase.trade_in) (train_came company purchase))
+    (after_train game company purchase)
+by_train_came game company purchase =
+    let came : Game = with_event (with_trade game company purchase.trade_in) (train_came company purchase) in
+    let all : Game = train_bought game company purchase in
+    let phase : Event = event.Phase purchase.kind in
+    let followed : Game = with_phase all purchase.kind in
+    let bop : Lengthens came all =
+    of_bop Lengthens lengthens_on (λ now private. by_event now (event.Closed private)) came company in
+    let later : Lengthens (with_event all phase) followed =
+    of_phase Lengthens lengthens_on (λ now private. by_event now (event.Closed private))
+    (λ kind. of_train_owner Lengthens lengthens_on kind (λ now owner. by_event now (event.Rusted owner kind)))
+    (of_next Lengthens lengthens_on (λ now its kind. by_event now (event.Discarded its kind))) all purchase.kind in
+    let whole : Lengthens came followed = bop ⨾ by_event all phase ⨾ later in
+    of_choice Lengthens (begins_phase game.events purchase.from purchase.kind) came followed all whole bop
+
 -- by the purchase of a train, and what follows from it
 pub by_train : (game : Game) (company : Company) (purchase : TrainPurchase)
     → Lengthens game (after_train game company purchase)
 by_train game company purchase =
     let traded : Game = with_trade game company purchase.trade_in in
-    let train : Event = event.Train company purchase.kind purchase.from (train_purchase_cost purchase) in
-    let came : Game = with_event traded train in
-    let all : Game = train_bought game company purchase in
-    let phase : Event = event.Phase purchase.kind in
-    let followed : Game = with_phase all purchase.kind in
     let trade : Lengthens game traded =
     of_trade Lengthens lengthens_on (λ now its kind. by_event now (event.Traded its kind)) game company purchase.trade_in in
-    let bop : Lengthens came all =
-    of_bop Lengthens lengthens_on (λ now private. by_event now (event.Closed private)) came company in
-    let first : Lengthens game all = trade ⨾ by_event traded train ⨾ bop in
-    let later : Lengthens (with_event all phase) followed =
-    of_phase Lengthens lengthens_on (λ now private. by_event now (event.Closed private))
-    (λ kind. of_train_owner Lengthens lengthens_on kind (λ now owner. by_event now (event.Rusted owner kind)))
-    (of_next Lengthens lengthens_on (λ now its kind. by_event now (event.Discarded its kind))) all purchase.kind in
-    let whole : Lengthens game followed = first ⨾ by_event all phase ⨾ later in
-    of_choice Lengthens (begins_phase game.events purchase.from purchase.kind) game followed all whole first
-
--- by that of a private
-pub by_owner : (game : Game) (company : Company) (private : Private) (price : ℕ) (owner : Option Holder)
-    → Lengthens game (sold_by game company private price owner)
-by_owner game company private price (Some (holder.Seat seller)) =
-    by_event game (event.PrivateBought private company seller price)
-by_owner game company private price (Some (holder.Company other)) = stays
-by_owner game company private price None = stays
+    trade ⨾ by_event traded (train_came company purchase) ⨾ by_train_came game company purchase
 
 -- by a sale of a president
 pub by_presidents_sale : (by : Operator) (game : Game) (sale : Sale) → Lengthens game (after_presidents_sale by game sale)

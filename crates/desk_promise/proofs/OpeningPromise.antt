@@ -3,6 +3,7 @@ use Rattle.std.proofs.Common.{◌≡◌, ℕ, zero, suc, ◌+◌, Bool, true, fa
 use Rattle.std.proofs.Common.{is_none, is_some, refl, sym, ap, subst, ◌∙◌, arith}
 use Rattle.std.specs.Prelude.{if◌then◌else◌, nat_lt}
 use Rattle.desk_promise.proofs.Longer.{by_opening_close}
+use Rattle.desk_promise.proofs.Moved.{only_opening}
 use Rattle.desk_promise.proofs.Names.{ReadWhereSpelt}
 use Rattle.desk_promise.proofs.Ruled.{by_opening_line}
 use Rattle.desk_promise.proofs.SheetHead.{SpellingIsRead}
@@ -22,7 +23,7 @@ use Rattle.moves.specs.OpeningRows.{opening_answer, opening_orders, opening_row}
 use Rattle.moves.specs.RowLaws.{OpeningRowsAreRuled, rule_told}
 use Rattle.order_grammar.specs.declared.order.Order.TheVariants.{Play}
 use Rattle.order_grammar.specs.declared.play.PlayOrder.{PlayOrder}
-use Rattle.privates.specs.Turn.{all_sold, opening_line_ruling, opening_rules}
+use Rattle.privates.specs.Turn.{all_sold, opening_line_ruling, opening_refusal, opening_rules}
 use Rattle.rounds.proofs.Coming.{comes_in_sequence}
 use Rattle.rounds.proofs.OneGame.{EachOpeningEnds, OneOpeningRound, OneStockRound}
 use Rattle.rounds.specs.Begun.{RoundsOnlyAdd}
@@ -119,10 +120,17 @@ opening_rows_reported spelt is_read again plain alike adds players one_opening o
     let ended = ends (line_file file round seat (turn_of_one order)) round last.game in
     let on = ap all_sold (no_standing_lines spelt is_read again plain file accepted end round tt its seat own order fit also
     opening_rules.standing (last.game.events ++ event.Round round ∷ [])) ∙ unsold in
-    turn_reported spelt is_read again plain file accepted end round tt its seat own order fit also
-    alike adds players one_opening one_stock one_operating last plays comes opening_rules say by_opening_close
-    reached turn.history.events head.there on still (judged None (Play order) (told turn.used))
-    (by_opening_line last.game.seats seat (in_turn turn.history.events false) (line_at 2 (Play order)) None (Play order)
-    (told turn.used) ruled)
-    ended.new ended.played ended.played text report)
+    let seats : ℕ = turn.history.seats in
+    let done = by_opening_line last.game.seats seat (in_turn turn.history.events false) (line_at 2 (Play order)) order
+    (opening_refusal seats turn.history.events seat turn.used (Play order))
+    (only_opening seats turn.history.events seat turn.used order fit) ruled in
+    record {
+      moved = done.moved;
+      as_told = done.as_told;
+      reported =
+          turn_reported spelt is_read again plain file accepted end round tt its seat own order fit also
+          alike adds players one_opening one_stock one_operating last plays comes opening_rules say by_opening_close
+          reached turn.history.events head.there on still (judged None (Play order) (told turn.used)) done.moved
+          done.goes_on ended.new ended.played ended.played text report;
+    })
     (opening_orders turn.history.events)

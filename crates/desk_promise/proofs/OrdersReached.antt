@@ -119,15 +119,15 @@ module _ (file : List ℕ) (round : Round) (by : Operator) (line : Numbered) (on
       (λ k from within. one.before k)))
 
 -- the turns of an operating round from a company's turn on
-record FromTurn (file : List ℕ) (round : Round) (company : Company) (mid turned : Game) : Type 0 where
-  after : Game
-  turn : IsCompanyTurn file round company mid after
-  rest : List Company
-  later : TakeTurns file round rest after turned
+pub record FromTurn (file : List ℕ) (round : Round) (company : Company) (mid turned : Game) : Type 0 where
+  pub after : Game
+  pub turn : IsCompanyTurn file round company mid after
+  pub rest : List Company
+  pub later : TakeTurns file round rest after turned
 
 module _ (once : OneCompanyTurn) (file : List ℕ) (round : Round) where
   -- the turns of a round go the way of some of them, up to where a company comes next, and then it has its turn
-  from_turn : (before companies : List Company) (company : Company) (old mid turned : Game)
+  pub from_turn : (before companies : List Company) (company : Company) (old mid turned : Game)
       → TakeTurns file round before old mid → next_company mid.events ≡ Some company
       → TakeTurns file round companies old turned → next_company turned.events ≡ None
       → FromTurn file round company mid turned
@@ -186,7 +186,7 @@ by_order by turn number its new leads =
 -- the turn goes on after its one line
 module _ (file : List ℕ) (round : Round) (by : Operator) (old new : Game)
     (presides : president_of old.events by.company ≡ Some by.president) (turn : IsCompanyTurn file round by.company old new) where
-  from_line : (number : ℕ) (its : Order)
+  pub from_line : (number : ℕ) (its : Order)
       → company_orders_for file round by.president.0 by.company ≡ line_at number its ∷ []
       → FirstLineStands by (begun old by.company) (line_at number its) its new.events
   from_line number its own =

@@ -1,11 +1,10 @@
 -- What is in the list of an awaited round, played with new sheets, is what the report of the file with
 -- them says.
 use Rattle.std.proofs.Common.{◌≡◌, ℕ, suc, false, List, [], ◌∷◌, ◌++◌, append_assoc, sym, ap, subst, ◌∙◌}
-use Rattle.desk_promise.proofs.GameBefore.{after_round, now_posted, one_more, played_before}
+use Rattle.desk_promise.proofs.GameBefore.{IsPosted, after_round, now_posted, one_more, played_before}
 use Rattle.desk_promise.proofs.Longer.{GoesOn}
 use Rattle.desk_promise.proofs.ReportText.{reported_next}
 use Rattle.desk_promise.proofs.TurnPromise.{of_accepted}
-use Rattle.desk_promise.specs.LineFile.{HasSheets}
 use Rattle.desk_promise.specs.Reported.{IsReportedNext}
 use Rattle.events.specs.declared.event.Event.{Event}
 use Rattle.events.specs.declared.event.Event.TheVariants as event
@@ -19,7 +18,6 @@ use Rattle.rounds.specs.ReadAlike.{SameSheetsAreReadAlike}
 use Rattle.rounds.specs.declared.following.Next.TheVariants as next
 use Rattle.sheets.specs.File.{IsAccepted, all_posted, content_of}
 use Rattle.tables.specs.declared.round.Round.{Round}
-use Rattle.tables.specs.declared.seat.Seat.{Seat}
 use Rattle.totals.specs.LookBack.{Game}
 
 -- the laws of rounds on which this rests
@@ -30,19 +28,19 @@ pub record RoundLaws : Type 0 where
   pub one_stock : OneStockRound
   pub one_operating : OneOperatingRound
 
-pub played_reported : RoundLaws → (file new : List ℕ) (last : Between) (round : Round) (seat : Seat) (lines : List (List ℕ))
-    → Plays file last → last.next ≡ next.Round round → HasSheets file new round seat lines → IsAccepted new
+pub played_reported : RoundLaws → (file new : List ℕ) (last : Between) (round : Round) → Plays file last
+    → last.next ≡ next.Round round → IsPosted file new round → IsAccepted new
     → (game : Game) → IsPlayed new round last.game game → (text : List ℕ) → IsReport new text → (head : Game)
     (said : List Event) → GoesOn (last.game.events ++ event.Round round ∷ []) head.events
     → GoesOn (head.events ++ said) game.events → IsReportedNext new text last.game round head said
-played_reported laws file new last round seat lines plays comes has also game kind text report head said heading stands =
+played_reported laws file new last round plays comes has also game kind text report head said heading stands =
     let whole = of_accepted new text (content_of new) also report in
     let mid = after_round round last game in
     let not_yet : all_posted file round ≡ false = ap (goes_on file) (sym comes) ∙ plays.stopped in
     let step : IsRound new last mid =
-    one_more new round last game comes (now_posted laws.alike file new round seat lines has) kind in
+    one_more new round last game comes (now_posted laws.alike file new round has) kind in
     let before_new : AreRounds new plays.rounds (before_play new) last =
-    played_before laws.alike file new round seat lines has not_yet plays.rounds last plays.reached in
+    played_before laws.alike file new round has not_yet plays.rounds last plays.reached in
     let later = on_the_way laws.one_opening laws.one_stock laws.one_operating new (suc plays.rounds) whole.game.rounds
     (before_play new) mid whole.last (last, before_new, step) whole.game.reached whole.game.stopped in
     let there : head.events ≡ last.game.events ++ event.Round round ∷ heading.more =

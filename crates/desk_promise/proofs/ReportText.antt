@@ -144,16 +144,19 @@ module _ (adds : RoundsOnlyAdd) (file : List ℕ) (old mid last : Between) (play
         (three_before (rounds_text file old.game) (flat_map (event_line file) (event.Round round ∷ in_round))
         statement_then after)
 
-  pub reported_first : (passing : List Seat) (seat : Seat) (number : ℕ) (ruling : Ruling) (later : List Event)
+  pub reported_first : (passing : List Seat) (seat : Seat) (number : ℕ) (ruling : Ruling) (moved later : List Event)
       → mid.game.events
-      ≡ old.game.events ++ (event.Round round ∷ (passes_of passing ++ (event.Ruled seat number ruling ∷ later)))
-      → IsReportedFirst file (report_text file last.game end) old.game round seat number ruling
-  reported_first passing seat number ruling later events =
-      let in_round : List Event = passes_of passing ++ (event.Ruled seat number ruling ∷ later) in
+      ≡ old.game.events
+      ++ (event.Round round ∷ (passes_of passing ++ (event.Ruled seat number ruling ∷ (moved ++ later))))
+      → IsReportedFirst file (report_text file last.game end) old.game round seat number ruling moved
+  reported_first passing seat number ruling moved later events =
+      let in_round : List Event = passes_of passing ++ (event.Ruled seat number ruling ∷ (moved ++ later)) in
       let a : List ℕ = event_line file (event.Round round) in
       let b : List ℕ = flat_map (pass_line file) passing in
       let r : List ℕ = ruled_line file seat number ruling in
+      let m : List ℕ = flat_map (event_line file) moved in
       let d : List ℕ = flat_map (event_line file) later in
+      let both : List ℕ = flat_map (event_line file) (moved ++ later) in
       let tail : List ℕ = behind_round in_round events in
       record {
         passing = passing;
@@ -161,9 +164,12 @@ module _ (adds : RoundsOnlyAdd) (file : List ℕ) (old mid last : Between) (play
         is =
             report_so in_round events
             ∙ ap (λ (text : List ℕ). header file ++ (rounds_text file old.game ++ text))
-            (ap (λ (text : List ℕ). text ++ tail) (lines_of_ruling file round passing seat number ruling later)
-            ∙ append_assoc a (b ++ (r ++ d)) tail
-            ∙ ap (λ (text : List ℕ). a ++ text) (three_before b r d tail));
+            (ap (λ (text : List ℕ). text ++ tail) (lines_of_ruling file round passing seat number ruling (moved ++ later))
+            ∙ append_assoc a (b ++ (r ++ both)) tail
+            ∙ ap (λ (text : List ℕ). a ++ text) (three_before b r both tail)
+            ∙ ap (λ (text : List ℕ). a ++ (b ++ (r ++ text)))
+            (ap (λ (text : List ℕ). text ++ tail) (flat_map-append (event_line file) moved later)
+            ∙ append_assoc m d tail));
       }
 
   -- what follows the head of the game in the round is what the report says next

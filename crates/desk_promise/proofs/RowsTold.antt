@@ -4,18 +4,19 @@ use Rattle.std.proofs.Common.{refl, sym, ap, subst, ◌∙◌, arith}
 use Rattle.std.specs.Prelude.{if◌then◌else◌, not, ◌||◌}
 use Rattle.std.proofs.Math.Bool.{or-false}
 use Rattle.desk_promise.proofs.CompanyPromise.{Laws, order_stands}
-use Rattle.desk_promise.proofs.LaysTold.{as_said, both_added, from_start}
-use Rattle.desk_promise.proofs.Longer.{GoesOn, stays}
-use Rattle.desk_promise.proofs.LongerTurns.{Lengthens, by_owner, by_train}
+use Rattle.desk_promise.proofs.LaysTold.{as_said, from_start}
+use Rattle.desk_promise.proofs.Longer.{both_added, stays}
+use Rattle.desk_promise.proofs.LongerTurns.{Lengthens}
+use Rattle.desk_promise.proofs.Moved.{Moved}
+use Rattle.desk_promise.proofs.OrdersMoved.{by_private_line, by_train_line, row_in_report}
 use Rattle.desk_promise.proofs.OrdersReached.{by_added, is_head, starts}
 use Rattle.desk_promise.proofs.StockPromise.{each_mapped}
 use Rattle.desk_promise.proofs.TurnSheets.{line_at}
-use Rattle.desk_promise.specs.CompanyLines.{IsHeadAwaited, IsReportedSo, obeyed, refused, ruled_second}
+use Rattle.desk_promise.specs.CompanyLines.{IsHeadAwaited, IsReportedSo, obeyed, order_file, refused, ruled_second}
 use Rattle.desk_promise.specs.CompanyRows.{BestIsReported, IsRowReported, PrivateRowsAreReported, TrainRowsAreReported}
-use Rattle.desk_promise.specs.TurnRows.{ruling_told}
+use Rattle.desk_promise.specs.Moves.{MovesInOrders}
 use Rattle.events.specs.declared.event.Event.{Event}
 use Rattle.events.specs.declared.event.Event.TheVariants as event
-use Rattle.events.specs.declared.ruling.Refusal.{Refusal}
 use Rattle.events.specs.declared.ruling.Refusal.TheVariants as refusal
 use Rattle.forced_purchase.specs.declared.operator.Operator.{Operator}
 use Rattle.foresight.specs.Ahead.{OrdersState, withheld_in}
@@ -25,6 +26,7 @@ use Rattle.map_tables.specs.declared.rules.RunRule.TheVariants.{NoTrain}
 use Rattle.moves.specs.CompanyRows.{PrivateOrder, TrainOrder, private_answer, private_orders, private_row, train_answer}
 use Rattle.moves.specs.CompanyRows.{train_orders, train_row}
 use Rattle.moves.specs.RowLaws.{PrivateRowsAreRuled, TrainRowsAreRuled, rule_told}
+use Rattle.moves.specs.declared.row.Answer.{Answer}
 use Rattle.operating.proofs.TurnGames.{of_steps}
 use Rattle.operating.proofs.TurnLaws.{adds_by}
 use Rattle.operating.proofs.TurnSteps.{of_withheld_if_unpaid}
@@ -34,30 +36,19 @@ use Rattle.operating.specs.MapState.{position_now}
 use Rattle.operating.specs.Pay.{withheld_if_unpaid}
 use Rattle.operating.specs.Progress.{at_start, has_any_run}
 use Rattle.operating.specs.RunBest.{BestRuled, trains_now}
-use Rattle.operating.specs.TurnState.{TurnState, ruled, turn_state}
-use Rattle.order_grammar.specs.declared.order.Order.{Order}
+use Rattle.operating.specs.TurnState.{TurnState, turn_state}
 use Rattle.order_grammar.specs.declared.order.Order.TheVariants.{Play}
 use Rattle.order_grammar.specs.declared.play.PlayOrder.{PlayOrder}
 use Rattle.order_grammar.specs.declared.play.PlayOrder.TheVariants as play
-use Rattle.purchases.specs.Private.{private_bought}
-use Rattle.purchases.specs.Train.{after_train, has_trains, purchase_of}
+use Rattle.purchases.specs.Train.{has_trains}
 use Rattle.reach.specs.Position.{Position}
 use Rattle.rounds.specs.Play.{Between}
-use Rattle.sheets.specs.Part.{Numbered}
 use Rattle.tables.specs.declared.rolling_stock.Kind.{Kind}
 use Rattle.tables.specs.declared.roster.Company.{Company}
 use Rattle.tables.specs.declared.round.Round.{Round}
 use Rattle.tables.specs.declared.round.Round.TheVariants.{Operating}
-use Rattle.totals.specs.LookBack.{Game, owner_of}
+use Rattle.totals.specs.LookBack.{Game}
 use Rattle.turns.specs.Ruling.{judged}
-
--- by a line that is ruled so
-by_ruled : (by : Operator) (turn : TurnState) (line : Numbered) (order : Order) (broken : Option Refusal)
-    (act : TurnState → TurnState) → ((after : TurnState) → Lengthens after.game (act after).game)
-    → GoesOn (turn.game.events ++ event.Ruled by.president line.number (judged line.condition order broken) ∷ [])
-    (ruled by turn line order broken act).game.events
-by_ruled by turn line order None act adds = adds _
-by_ruled by turn line order (Some rule) act adds = stays
 
 -- a company withholds
 pub by_withholding : (company : Company) (turn : TurnState) → Lengthens turn.game (withheld_if_unpaid company turn).game
@@ -99,21 +90,21 @@ module _ (laws : Laws) (file : List ℕ) (last : Between) (set number : ℕ) (co
       let stands = order_stands laws file last set number company orders awaited order fit also text report in
       let led = law by orders.turn.game (line_at 2 (Play order)) its.kind its.from stands.next
       (from_start orders order stands.next start stands.leads) in
-      let rules : TurnState → Option Refusal =
-      λ (turn : TurnState). rule_told (train_answer (withheld_if_unpaid by.company turn).game by.company its.kind its.from) in
-      let bought : TurnState → TurnState =
-      λ (after : TurnState). turn_state (after_train after.game by.company (purchase_of its.kind its.from)) after.progress in
-      let told : GoesOn ((withheld_if_unpaid by.company at_head).game.events
-      ++ ruled_second by (judged None (Play order) (rules at_head)) ∷ []) stands.next.game.events =
-      subst (λ (turn : TurnState). GoesOn ((withheld_if_unpaid by.company at_head).game.events
-      ++ ruled_second by (judged None (Play order) (rules at_head)) ∷ []) turn.game.events) (sym led)
-      (by_ruled by (withheld_if_unpaid by.company at_head) (line_at 2 (Play order)) (Play order) (rules at_head) bought
-      (λ after. by_train after.game by.company (purchase_of its.kind its.from))) in
-      stands.reports (withheld_in orders).turn.game
-      (ruled_second by (ruling_told (train_row (withheld_in orders).turn.game by.company its)) ∷ [])
-      (by_withholding by.company orders.turn)
-      (subst (λ (turn : TurnState). GoesOn ((withheld_if_unpaid by.company turn).game.events
-      ++ ruled_second by (judged None (Play order) (rules turn)) ∷ []) stands.next.game.events) (sym start) told)
+      let paid : TurnState → TurnState = λ (turn : TurnState). withheld_if_unpaid by.company turn in
+      let answer : TurnState → Answer =
+      λ (turn : TurnState). train_answer (paid turn).game by.company its.kind its.from in
+      let ruled_at : TurnState → List Event = λ (turn : TurnState). (paid turn).game.events
+      ++ ruled_second by (judged None (Play order) (rule_told (answer turn))) ∷ [] in
+      let told : Moved (answer at_head) (MovesInOrders (paid at_head).game by order) (ruled_at at_head)
+      stands.next.game.events =
+      subst (λ (turn : TurnState). Moved (answer at_head) (MovesInOrders (paid at_head).game by order) (ruled_at at_head)
+      turn.game.events) (sym led)
+      (by_train_line by (paid at_head) (line_at 2 (Play order)) its.kind its.from) in
+      row_in_report (order_file file round by order) text last.game round by (withheld_in orders).turn.game
+      (train_row (withheld_in orders).turn.game by.company its) stands.next.game.events
+      (λ said goes_on. stands.reports (withheld_in orders).turn.game said (by_withholding by.company orders.turn) goes_on)
+      (subst (λ (turn : TurnState). Moved (answer turn) (MovesInOrders (paid turn).game by order) (ruled_at turn)
+      stands.next.game.events) (sym start) told)
 
   private_row_reported : PrivateRowsAreRuled → (its : PrivateOrder)
       → IsRowReported file last.game round orders.by orders.turn.game (private_row orders.turn.game orders.by.company its)
@@ -123,15 +114,13 @@ module _ (laws : Laws) (file : List ℕ) (last : Between) (set number : ℕ) (co
       let stands = order_stands laws file last set number company orders awaited order fit also text report in
       let led = law by orders.turn.game (line_at 2 (Play order)) its.private its.price stands.next
       (from_start orders order stands.next start stands.leads) in
-      let rule : Option Refusal = rule_told (private_answer orders.turn.game by.company its.private its.price) in
-      let bought : TurnState → TurnState =
-      λ (after : TurnState). turn_state (private_bought after.game by.company its.private its.price) after.progress in
-      stands.reports orders.turn.game
-      (ruled_second by (ruling_told (private_row orders.turn.game by.company its)) ∷ []) stays
-      (subst (λ (turn : TurnState). GoesOn (orders.turn.game.events
-      ++ ruled_second by (judged None (Play order) rule) ∷ []) turn.game.events) (sym led)
-      (by_ruled by at_head (line_at 2 (Play order)) (Play order) rule bought
-      (λ after. by_owner after.game by.company its.private its.price (owner_of after.game.events its.private))))
+      let answer : Answer = private_answer orders.turn.game by.company its.private its.price in
+      row_in_report (order_file file round by order) text last.game round by orders.turn.game
+      (private_row orders.turn.game by.company its) stands.next.game.events
+      (λ said goes_on. stands.reports orders.turn.game said stays goes_on)
+      (subst (λ (turn : TurnState). Moved answer (MovesInOrders orders.turn.game by order) (orders.turn.game.events
+      ++ ruled_second by (judged None (Play order) (rule_told answer)) ∷ []) turn.game.events) (sym led)
+      (by_private_line by at_head (line_at 2 (Play order)) its.private its.price))
 
   -- RUN BEST at the start of a turn, by whether the company has a train
   best_led : (trains : Bool) (next : TurnState) → has_trains orders.turn.game.events orders.by.company ≡ trains

@@ -71,15 +71,20 @@ module _ (spelt : ReadWhereSpelt) (is_read : SpellingIsRead) (file : List ℕ) (
   abbrev pub sheet_text_of : List ℕ
   sheet_text_of = empty_sheet file round tried.0 ++ (flat_map ended lines ++ other_sheets file round tried)
 
-  all_lines : lines_of sheet_text_of ≡ sheet_lines_of
-  all_lines =
-      whole_text sheet_text_of sheet_lines_of
-      (both_read (empty_sheet file round tried.0) (flat_map ended lines ++ other_sheets file round tried)
+  pub all_read : ReadsAs sheet_text_of sheet_lines_of
+  all_read =
+      both_read (empty_sheet file round tried.0) (flat_map ended lines ++ other_sheets file round tried)
       (head tried.0 ∷ []) (lines ++ other_heads head tried.0 0 (length (players_of file))) (empty_written tried.0 own)
       (both_read (flat_map ended lines) (other_sheets file round tried) lines
       (other_heads head tried.0 0 (length (players_of file))) (lines_ended lines all)
       (seats_read (sheet_if_other file round tried.0) (head_if_other head tried.0) 0 (length (players_of file))
-      (λ seat within. if_other seat (omega (arith, within))))))
+      (λ seat within. if_other seat (omega (arith, within)))))
+
+  -- the text of the sheet alone
+  pub one_read : ReadsAs (empty_sheet file round tried.0 ++ flat_map ended lines) (head tried.0 ∷ lines)
+  one_read =
+      both_read (empty_sheet file round tried.0) (flat_map ended lines) (head tried.0 ∷ []) lines
+      (empty_written tried.0 own) (lines_ended lines all)
 
   -- the SHEET lines count
   heads_count : (first count : ℕ) → first + count ≤ length (players_of file)
@@ -97,14 +102,24 @@ module _ (spelt : ReadWhereSpelt) (is_read : SpellingIsRead) (file : List ℕ) (
             ∙ ap (λ (lines : List (List ℕ)). head first ∷ lines) later
       ]
 
-  -- so those are the lines of the text that count
-  pub text_lines : written (lines_of sheet_text_of) ≡ sheet_lines_of
-  text_lines =
+  -- so those lines all count
+  pub all_count : written sheet_lines_of ≡ sheet_lines_of
+  all_count =
       let others : List (List ℕ) = other_heads head tried.0 0 (length (players_of file)) in
-      ap written all_lines
-      ∙ ap (λ (b : Bool). cond (not b) (head tried.0 ∷ written (lines ++ others)) (written (lines ++ others)))
+      ap (λ (b : Bool). cond (not b) (head tried.0 ∷ written (lines ++ others)) (written (lines ++ others)))
       (head_counts spelt is_read (players_of file) named round its tried.0 own)
       ∙ ap (λ (rest : List (List ℕ)). head tried.0 ∷ rest)
       (filter-append (λ (line : List ℕ). not (is_blank line)) lines others
       ∙ ap (λ (first : List (List ℕ)). first ++ written others) (lines_count lines all)
       ∙ ap (λ (later : List (List ℕ)). lines ++ later) (heads_count 0 (length (players_of file)) (omega arith)))
+
+  -- and those of the sheet alone
+  pub one_counts : written (head tried.0 ∷ lines) ≡ head tried.0 ∷ lines
+  one_counts =
+      ap (λ (b : Bool). cond (not b) (head tried.0 ∷ written lines) (written lines))
+      (head_counts spelt is_read (players_of file) named round its tried.0 own)
+      ∙ ap (λ (rest : List (List ℕ)). head tried.0 ∷ rest) (lines_count lines all)
+
+  -- they are the lines of the text that count
+  pub text_lines : written (lines_of sheet_text_of) ≡ sheet_lines_of
+  text_lines = ap written (whole_text sheet_text_of sheet_lines_of all_read) ∙ all_count

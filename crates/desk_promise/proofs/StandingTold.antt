@@ -5,7 +5,7 @@ use Rattle.std.specs.Int.Signed.{lt_z}
 use Rattle.std.specs.Prelude.{◌||◌, not, option_map, unwrap_or}
 use Rattle.std.specs.List.{range_with_len}
 use Rattle.desk_promise.proofs.FirstTurn.{by_left, by_turns}
-use Rattle.desk_promise.proofs.GameBefore.{seats_kept}
+use Rattle.desk_promise.proofs.GameBefore.{is_posted, seats_kept}
 use Rattle.desk_promise.proofs.LineFiles.{has_sheets}
 use Rattle.desk_promise.proofs.Longer.{◌⨾◌, GoesOn, by_events, by_opening_close, by_revenues, stays}
 use Rattle.desk_promise.proofs.CompanyPromise.{Laws}
@@ -117,7 +117,7 @@ module _ (events : List Event) (round : Round) where
   limited_so number other fit = absurd fit
 
 -- so the line is ruled as its row tells
-operating_ruled : StandingRowsAreRuled → (events : List Event) (seat : Seat) (set number : ℕ) (its : PlayOrder)
+pub operating_ruled : StandingRowsAreRuled → (events : List Event) (seat : Seat) (set number : ℕ) (its : PlayOrder)
     → IsStandingIn (Operating set number) its
     → operating_standing_ruling (begun events (Operating set number)) seat (line_at 1 (Play its))
     ≡ judged None (Play its) (operating_standing_judgement events seat (Play its))
@@ -199,7 +199,8 @@ module _ (laws : Laws) (file : List ℕ) (last : Between) (round : Round) (accep
       → (text : List ℕ) → IsReport new text
       → IsReportedNext new text last.game round (with_event last.game (event.Round round)) (event.Ruled seat 1 ruling ∷ [])
   standing_reported ruling game played stands text report =
-      played_reported laws.rounds file new last round seat lines plays comes has also game played text report
+      played_reported laws.rounds file new last round plays comes (is_posted file new round seat lines has) also game played
+      text report
       (with_event last.game (event.Round round)) (event.Ruled seat 1 ruling ∷ []) stays stands
 
 operating_row : Laws → StandingRowsAreRuled → (file : List ℕ) (last : Between) (set number : ℕ) → IsAccepted file

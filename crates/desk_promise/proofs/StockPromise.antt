@@ -2,6 +2,7 @@
 use Rattle.std.proofs.Common.{◌≡◌, ℕ, List, [], ◌∷◌, map, Option, None, refl, sym, ap, subst, ◌∙◌}
 use Rattle.std.specs.List.{AllByRecursion}
 use Rattle.desk_promise.proofs.Longer.{by_stock_close}
+use Rattle.desk_promise.proofs.Moved.{only_stock}
 use Rattle.desk_promise.proofs.Names.{ReadWhereSpelt}
 use Rattle.desk_promise.proofs.Ruled.{by_stock_line}
 use Rattle.desk_promise.proofs.SheetHead.{SpellingIsRead}
@@ -22,6 +23,7 @@ use Rattle.rounds.specs.OperatingRound.{OneOperatingRound}
 use Rattle.rounds.specs.ReadAlike.{SameSheetsAreReadAlike}
 use Rattle.sheets.specs.Laws.{ThreeToSixPlay}
 use Rattle.stock_round.specs.Deals.{no_deals}
+use Rattle.stock_round.specs.Orders.{stock_refusal}
 use Rattle.stock_round.specs.Turn.{stock_line_ruling, stock_rules}
 use Rattle.tables.specs.declared.roster.Company.{Company}
 use Rattle.tables.specs.declared.round.Round.TheVariants.{Stock}
@@ -54,10 +56,16 @@ stock_rows_reported spelt is_read again plain alike adds players one_opening one
     (law ∙ ap (λ (bought : Option Company). judged None (Play order) (told bought)) (sym head.nothing))
     in
     let ended = ends (line_file file (Stock set) seat (turn_of_one order)) (Stock set) last.game in
-    turn_reported spelt is_read again plain file accepted end (Stock set) tt its seat own order fit also
-    alike adds players one_opening one_stock one_operating last plays comes stock_rules say (λ (seats : ℕ) (events : List Event). by_stock_close events)
-    reached turn.history.events head.there refl refl (judged None (Play order) (told turn.bought))
-    (by_stock_line last.game.seats seat (in_turn turn.history.events no_deals) (line_at 2 (Play order)) None (Play order)
-    (told turn.bought) ruled)
-    ended.new ended.played ended.played text report)
+    let done = by_stock_line last.game.seats seat (in_turn turn.history.events no_deals) (line_at 2 (Play order)) order
+    (stock_refusal turn.history seat turn.bought (Play order)) (only_stock turn.history seat turn.bought order fit) ruled in
+    record {
+      moved = done.moved;
+      as_told = done.as_told;
+      reported =
+          turn_reported spelt is_read again plain file accepted end (Stock set) tt its seat own order fit also
+          alike adds players one_opening one_stock one_operating last plays comes stock_rules say
+          (λ (seats : ℕ) (events : List Event). by_stock_close events)
+          reached turn.history.events head.there refl refl (judged None (Play order) (told turn.bought)) done.moved
+          done.goes_on ended.new ended.played ended.played text report;
+    })
     (stock_orders turn.history.events seat)

@@ -6,7 +6,7 @@ use Rattle.std.specs.Prelude.{unwrap_or}
 use Rattle.std.proofs.lemmas.Bool.{cases_lt}
 use Rattle.std.proofs.lemmas.List.{map-append}
 use Rattle.desk_promise.proofs.FirstTurn.{first_turn_stands}
-use Rattle.desk_promise.proofs.GameBefore.{after_round, now_posted, one_more, played_before, seats_kept}
+use Rattle.desk_promise.proofs.GameBefore.{IsPosted, after_round, is_posted, now_posted, one_more, played_before, seats_kept}
 use Rattle.desk_promise.proofs.LineFiles.{has_sheets}
 use Rattle.desk_promise.proofs.Longer.{◌⨾◌, GoesOn}
 use Rattle.desk_promise.proofs.Names.{ReadWhereSpelt}
@@ -116,6 +116,9 @@ module _ (spelt : ReadWhereSpelt) (is_read : SpellingIsRead) (again : ReadAgain)
   module _ (alike : SameSheetsAreReadAlike) (adds : RoundsOnlyAdd) (players : ThreeToSixPlay) (one_opening : OneOpeningRound)
       (one_stock : OneStockRound) (one_operating : OneOperatingRound) (last : Between) (plays : Plays file last)
       (comes : last.next ≡ next.Round round) where
+    posted : IsPosted file new round
+    posted = is_posted file new round seat (turn_of_one order) has
+
     -- the round was not played
     awaited : all_posted file round ≡ false
     awaited = ap (goes_on file) (sym comes) ∙ plays.stopped
@@ -136,12 +139,12 @@ module _ (spelt : ReadWhereSpelt) (is_read : SpellingIsRead) (again : ReadAgain)
         (their : IsTheirTurn last.game.seats (priority_of last.game.seats last.game.events) seat
         (last.game.events ++ event.Round round ∷ []) before)
         (on : rules.over (begun_for rules new round seat last.game.events) ≡ false) (still : rules.over before ≡ false)
-        (ruling : Ruling)
-        (ruled : GoesOn (recorded seat 2 ruling before)
+        (ruling : Ruling) (moved : List Event)
+        (ruled : GoesOn (recorded seat 2 ruling before ++ moved)
         (rules.line last.game.seats seat (in_turn before rules.nothing) (line_at 2 (Play order))).events)
         (game : Game) (played : IsRoundOfTurns rules new round last.game game) (kind : IsPlayed new round last.game game) where
       -- the list at the end of the round goes on after the ruling
-      stands : GoesOn (recorded seat 2 ruling before) game.events
+      stands : GoesOn (recorded seat 2 ruling before ++ moved) game.events
       stands =
           ruled
           ⨾ first_turn_stands rules say by_close new round seat (line_at 2 (Play order)) last.game game before their.count
@@ -153,30 +156,33 @@ module _ (spelt : ReadWhereSpelt) (is_read : SpellingIsRead) (again : ReadAgain)
       abbrev passing : List Seat
       passing = passing_of last.game.seats (priority_of last.game.seats last.game.events) their.count
 
-      -- it has the round, the passes and the ruling after what was there
+      -- it has the round, the passes, the ruling and what moves after what was there
       events_then : game.events
-          ≡ last.game.events ++ (event.Round round ∷ (passes_of passing ++ (event.Ruled seat 2 ruling ∷ stands.more)))
+          ≡ last.game.events
+          ++ (event.Round round ∷ (passes_of passing ++ (event.Ruled seat 2 ruling ∷ (moved ++ stands.more))))
       events_then =
           let begun : List Event = last.game.events ++ event.Round round ∷ [] in
+          let rest : List Event = moved ++ stands.more in
           stands.longer
-          ∙ append_assoc before (event.Ruled seat 2 ruling ∷ []) stands.more
-          ∙ ap (λ (list : List Event). list ++ (event.Ruled seat 2 ruling ∷ stands.more))
+          ∙ append_assoc (recorded seat 2 ruling before) moved stands.more
+          ∙ append_assoc before (event.Ruled seat 2 ruling ∷ []) rest
+          ∙ ap (λ (list : List Event). list ++ (event.Ruled seat 2 ruling ∷ rest))
           (their.passed ∙ passes_added last.game.seats (priority_of last.game.seats last.game.events) begun their.count)
-          ∙ append_assoc begun (passes_of passing) (event.Ruled seat 2 ruling ∷ stands.more)
+          ∙ append_assoc begun (passes_of passing) (event.Ruled seat 2 ruling ∷ rest)
           ∙ append_assoc last.game.events (event.Round round ∷ [])
-          (passes_of passing ++ (event.Ruled seat 2 ruling ∷ stands.more))
+          (passes_of passing ++ (event.Ruled seat 2 ruling ∷ rest))
 
-      pub turn_reported : (text : List ℕ) → IsReport new text → IsReportedFirst new text last.game round seat 2 ruling
+      pub turn_reported : (text : List ℕ) → IsReport new text → IsReportedFirst new text last.game round seat 2 ruling moved
       turn_reported text report =
           let whole = of_accepted new text (content_of new) also report in
           let mid = after_round round last game in
           let step : IsRound new last mid =
-          one_more new round last game comes (now_posted alike file new round seat (turn_of_one order) has) kind in
+          one_more new round last game comes (now_posted alike file new round posted) kind in
           let before_new : AreRounds new plays.rounds (before_play new) last =
-          played_before alike file new round seat (turn_of_one order) has awaited plays.rounds last plays.reached in
+          played_before alike file new round posted awaited plays.rounds last plays.reached in
           let later = on_the_way one_opening one_stock one_operating new (suc plays.rounds) whole.game.rounds (before_play new)
           mid whole.last (last, before_new, step) whole.game.reached whole.game.stopped in
-          subst (λ (t : List ℕ). IsReportedFirst new t last.game round seat 2 ruling) (sym whole.is)
+          subst (λ (t : List ℕ). IsReportedFirst new t last.game round seat 2 ruling moved) (sym whole.is)
           (reported_first adds new last mid whole.last step later.0 later.1 round
           (comes_once step.round round (sym step.comes ∙ comes)) (end_of whole.last.next whole.last.game.events)
-          passing seat 2 ruling stands.more events_then)
+          passing seat 2 ruling moved stands.more events_then)

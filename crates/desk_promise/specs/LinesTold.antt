@@ -1,7 +1,7 @@
 -- From the text of `may --lines` to the report. Before an opening or a stock round it has, below the
--- standing lines of the player and TURN, the lines of rows that are all as the reports say. Before an
--- operating round it has below the standing lines the orders of each company over which the player
--- presides: COMPANY, and the lines of such rows of trains and privates.
+-- standing lines of the player and TURN, the lines of rows that are all as the reports say, each at the
+-- price that it tells. Before an operating round it has below the standing lines the orders of each
+-- company over which the player presides: COMPANY, and the lines of such rows of trains and privates.
 use Rattle.std.specs.Borrow.{Bor}
 use Rattle.std.specs.Prelude.{◌≡◌, ℕ, ◌<◌, true, false, List, ◌++◌, None, codes, length, ⊤}
 use Rattle.std.specs.List.{AllByRecursion, flat_map}

@@ -1,11 +1,14 @@
 -- From the rows of a player's turn to the report. Before an opening or a stock round a row tells what
 -- becomes of an order as the first line of the player's turn, if nobody else has orders. That is what
 -- the report says of the file in which it is the only line: after the passes of the seats before it
--- the line is obeyed, or refused by the rule that the row names.
+-- the line is obeyed, or refused by the rule that the row names. Right below an obeyed line is what it
+-- moves, at the price that the row tells.
 use Rattle.std.specs.Prelude.{◌≡◌, ℕ, ◌<◌, true, List, None, length, map}
 use Rattle.std.specs.List.{AllByRecursion}
 use Rattle.desk_promise.specs.LineFile.{IsEnded, IsOfTurns, line_file, turn_of_one}
+use Rattle.desk_promise.specs.Moves.{MovesAsTold, MovesInTurn}
 use Rattle.desk_promise.specs.Reported.{IsReportedFirst}
+use Rattle.events.specs.declared.event.Event.{Event}
 use Rattle.events.specs.declared.ruling.Ruling.{Ruling}
 use Rattle.foresight.specs.Turn.{IsAtHead}
 use Rattle.foresight.specs.declared.turn_ahead.TurnAhead.{TurnAhead}
@@ -33,13 +36,18 @@ ruling_told row = judged None (Play row.order) (rule_told row.answer)
 abbrev pub row_file : List ℕ → Round → Seat → Row → List ℕ
 row_file file round seat row = line_file file round seat (turn_of_one row.order)
 
--- a row is as the report of that file says, if the file is not refused: as line 2 of the sheet, below
--- TURN, its line is ruled as the row tells, in the round after this game
+-- in the report of that file, as line 2 of the sheet, below TURN, its line is ruled as the row tells, in
+-- the round after this game, and right below it is what its order moves at the price that the row tells
+pub record IsLineReported (file text : List ℕ) (game : Game) (round : Round) (seat : Seat) (row : Row) : Type 0 where
+  pub moved : List Event
+  pub as_told : MovesAsTold row.answer (MovesInTurn seat row.order) moved
+  pub reported : IsReportedFirst (row_file file round seat row) text game round seat 2 (ruling_told row) moved
+
+-- a row is as the report of that file says, if the file is not refused
 abbrev pub IsAsReported : List ℕ → Game → Round → Seat → Row → Type 0
 IsAsReported file game round seat row =
     IsOfTurns row.order → IsAccepted (row_file file round seat row) → (text : List ℕ)
-    → IsReport (row_file file round seat row) text
-    → IsReportedFirst (row_file file round seat row) text game round seat 2 (ruling_told row)
+    → IsReport (row_file file round seat row) text → IsLineReported file text game round seat row
 
 -- the rows of a stock round that is awaited are as the reports say
 abbrev pub StockRowsAreReported : Type 0

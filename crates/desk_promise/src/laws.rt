@@ -5,6 +5,9 @@ ghost use Rattle.desk_promise.specs.CompanyRows.{TrainRowsAreReported};
 ghost use Rattle.desk_promise.specs.LineFile.{LineFilesReadSo, OrdersFilesReadSo};
 ghost use Rattle.desk_promise.specs.LaysTold.{BestTextIsReported, LaysLinesAreReported};
 ghost use Rattle.desk_promise.specs.LinesTold.{MayLinesAreReported};
+ghost use Rattle.desk_promise.specs.OfferFile.{OfferedFilesReadSo};
+ghost use Rattle.desk_promise.specs.OfferedRows.{OfferedHeadsAreReached, OfferedPrivatesAreReported};
+ghost use Rattle.desk_promise.specs.OfferedRows.{OfferedTrainsAreReported};
 ghost use Rattle.desk_promise.specs.StandingRows.{StandingRowsAreReported};
 ghost use Rattle.desk_promise.specs.TurnRows.{OpeningRowsAreReported, StockRowsAreReported};
 
@@ -26,9 +29,19 @@ pub fn orders_files_read_so()
     order_grammar::laws::read_where_spelt()
 }
 
+/// States what an order file reads as with two sheets of a round at its end: one of a company with
+/// one order, and one of another player with just an offer. All others are empty.
+pub fn offered_files_read_so()
+    ensures { OfferedFilesReadSo }
+{
+    order_grammar::laws::spelling_is_read_again();
+    order_grammar::laws::read_where_spelt()
+}
+
 /// States that each row of a coming stock round tells what the report says of the file in which its
 /// order is the only line of the player's turn: after the passes of the seats before it the line is
-/// obeyed, or refused by the rule that the row names.
+/// obeyed, or refused by the rule that the row names. Right below an obeyed line is what it moves,
+/// at the price that the row tells.
 pub fn stock_rows_are_reported()
     ensures { StockRowsAreReported }
 {
@@ -49,7 +62,7 @@ pub fn stock_rows_are_reported()
 }
 
 /// States the same of each row of a coming opening round. A bid must be of a sum that a line may
-/// have.
+/// have, and then stands.
 pub fn opening_rows_are_reported()
     ensures { OpeningRowsAreReported }
 {
@@ -116,7 +129,7 @@ pub fn lays_are_reported()
 
 /// States the same of each row of a train, once the company has withheld, of each row of a private,
 /// and of each row of a RAISE, below FORCED. Its line is obeyed, or refused by the rule that the
-/// row names.
+/// row names. Right below an obeyed line is what it moves, at the price that the row tells.
 pub fn company_rows_are_reported()
     ensures trains { TrainRowsAreReported }
     ensures privates { PrivateRowsAreReported }
@@ -135,6 +148,51 @@ pub fn company_rows_are_reported()
     operating::laws::one_company_turn();
     operating::laws::turn_only_adds();
     moves::laws::company_rows_are_ruled()
+}
+
+/// States that a row of a train or of a private that names a consent is obeyed once that is given.
+/// In the report of the file with its order and that offer, the line is obeyed, and right below it
+/// is what it moves, at the price that the row tells. That is at the head that play comes to with
+/// the offer, if it is the head that is told in all but the offer.
+pub fn offered_rows_are_reported()
+    ensures trains { OfferedTrainsAreReported }
+    ensures privates { OfferedPrivatesAreReported }
+{
+    order_grammar::laws::spelling_is_read_again();
+    order_grammar::laws::read_where_spelt();
+    order_grammar::laws::conditional_spelling_is_read_again();
+    order_grammar::laws::version_one_has_no_conditions();
+    rounds::laws::same_sheets_are_read_alike();
+    rounds::laws::rounds_only_add();
+    privates::laws::one_opening_round();
+    stock_round::laws::one_stock_round();
+    rounds::laws::one_operating_round();
+    rounds::laws::operating_round_ends();
+    operating::laws::one_company_turn();
+    operating::laws::turn_only_adds();
+    moves::laws::company_rows_are_ruled();
+    moves::laws::offered_rows_are_obeyed()
+}
+
+/// States that play comes with an offer to the head of a company's orders that is told without it,
+/// in all but the offer, which is obeyed. The one who makes it may make it before the round, and no
+/// company before this one must buy a train.
+pub fn offered_heads_are_reached()
+    ensures { OfferedHeadsAreReached }
+{
+    order_grammar::laws::spelling_is_read_again();
+    order_grammar::laws::read_where_spelt();
+    order_grammar::laws::conditional_spelling_is_read_again();
+    order_grammar::laws::version_one_has_no_conditions();
+    rounds::laws::same_sheets_are_read_alike();
+    rounds::laws::rounds_only_add();
+    privates::laws::one_opening_round();
+    stock_round::laws::one_stock_round();
+    rounds::laws::one_operating_round();
+    rounds::laws::operating_round_ends();
+    operating::laws::one_company_turn();
+    operating::laws::turn_only_adds();
+    moves::laws::rows_are_ruled()
 }
 
 /// States that RUN BEST as the only line is obeyed if the company has a train, and credits the
@@ -158,7 +216,7 @@ pub fn best_is_reported()
 
 /// States that what `may --lines` writes tells the truth: below the standing lines and TURN, or the
 /// COMPANY of each company over which the player presides, it has the lines of rows, each of which
-/// is what the report says of the file with its order.
+/// is what the report says of the file with its order, at the price that it tells.
 pub fn may_lines_are_reported()
     ensures { MayLinesAreReported }
 {
